@@ -1,0 +1,12 @@
+pub mod Words
+pub mod Token
+pub mod WordCut
+pub mod Swap
+pub mod History
+pub mod Sent
+pub mod Verdicts
+pub mod OwnRows
+pub mod Outside
+pub mod Limits
+pub mod MemSink
+pub mod MemFiles

@@ -1,0 +1,31 @@
+// Values that every layer speaks of, and the outside as traits.
+#![tactic(auto)]
+
+mod bytes;
+mod mask;
+mod mem_files;
+mod mem_sink;
+mod outside;
+mod row;
+mod rows;
+mod sends;
+mod values;
+mod verdict;
+mod word_list;
+mod words;
+
+pub use bytes::{Bytes, NoMemory};
+pub use mask::Mask;
+pub use mem_files::MemFiles;
+pub use mem_sink::{MemSink, PushFault};
+pub use outside::{Failed, FileFail, Files, Sink};
+pub use row::Row;
+pub use rows::Rows;
+pub use sends::{Send, Sends};
+pub use values::{
+    Cursor, Ending, Happening, Limits, Link, MaskLimits, Note, Part, Phase, Scan, Side, TokenKind,
+    TokenSpan, What, Which,
+};
+pub use verdict::Verdict;
+pub use word_list::Words;
+pub use words::{WordCut, cut_at, is_row_word, is_word, is_word_byte};
