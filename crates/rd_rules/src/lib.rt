@@ -1,0 +1,2 @@
+// What a session is: definitions over whole histories, and the laws above them.
+#![tactic(auto)]
