@@ -5,3 +5,4 @@ pub mod Given
 pub mod Wait
 pub mod Trouble
 pub mod Sent
+pub mod Laws
