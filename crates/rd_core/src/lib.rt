@@ -2,6 +2,7 @@
 #![tactic(auto)]
 
 
+mod judging;
 mod opens;
 
 

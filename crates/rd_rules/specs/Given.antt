@@ -1,6 +1,7 @@
 -- What each link is given.
-use Rattle.std.specs.Prelude.{ℕ, suc, ◌+◌, Bool, List, [], ◌∷◌, ◌++◌, length, drop, map, sum, Option, Some, None, if◌then◌else◌, ◌==◌, nat_le, nat_lt, unwrap_or, option_map, option_and_then, fold}
+use Rattle.std.specs.Prelude.{ℕ, suc, ◌+◌, Bool, false, List, [], ◌∷◌, ◌++◌, length, drop, map, sum, Option, Some, None, if◌then◌else◌, ◌==◌, nat_le, nat_lt, unwrap_or, option_map, option_and_then, fold}
 use Rattle.std.specs.List.{flat_map}
+use Rattle.rd_base.specs.declared.values.MaskLimits.{MaskLimits}
 use Rattle.rd_base.specs.declared.values.Side.{Side}
 use Rattle.rd_base.specs.declared.values.Side.TheVariants.{Incoming, Outgoing}
 use Rattle.rd_base.specs.Token.{Token}
@@ -11,29 +12,36 @@ use Rattle.rd_base.specs.Verdicts.{verdict, mask_of, rows_at}
 use Rattle.rd_dialect.specs.Due.{request_due, reply_due}
 use Rattle.rd_rules.specs.Exchange.{Rules, Reading, reading, Exchange, Ask, note, first_bytes, token_lists, released, LinkUnit}
 
--- the token lists of an exchange's replies
+-- the token lists of an exchange's replies; a farewell has none
 abbrev pub reply_lists : Rules → Exchange → List (List Token)
-reply_lists r x = token_lists r.grammar (reply_due x.ask.phase (note r.grammar x.ask)) x.replies
+reply_lists r x =
+    if r.grammar.is_farewell (note r.grammar x.ask)
+    then []
+    else token_lists r.grammar (reply_due x.ask.phase (note r.grammar x.ask)) x.replies
 
 -- the token lists of a request, one by each that asks
 abbrev pub ask_lists : Rules → Ask → List (List Token)
 ask_lists r ask = token_lists r.grammar (request_due ask.phase) ask.units
 
 -- the masked places of agreed lists; one list has none
-abbrev pub agreed_mask : Rules → List (List Token) → List ℕ
-agreed_mask r [] = []
-agreed_mask r (a ∷ []) = []
-agreed_mask r (a ∷ b ∷ []) = []
-agreed_mask r (a ∷ b ∷ c ∷ more) = mask_of (verdict r.limits.mask (a ∷ b ∷ c ∷ more))
+abbrev pub agreed_mask : MaskLimits → List (List Token) → List ℕ
+agreed_mask most [] = []
+agreed_mask most (a ∷ []) = []
+agreed_mask most (a ∷ b ∷ []) = []
+agreed_mask most (a ∷ b ∷ c ∷ more) = mask_of (verdict most (a ∷ b ∷ c ∷ more))
+
+-- rows are learnt of replies to a client, where the dialect learns any
+abbrev pub learns_on : Side → Bool → Bool
+learns_on Incoming learns = learns
+learns_on Outgoing learns = false
+
+-- the rows of these agreed lists, where any are learnt
+abbrev pub learnt_rows : Bool → MaskLimits → List (List Token) → List Row
+learnt_rows learns most lists = if learns then rows_at lists (agreed_mask most lists) else []
 
 -- the rows of an exchange's agreed replies
-abbrev pub rows_on : Side → Rules → Exchange → List Row
-rows_on Incoming r x =
-    if r.grammar.learns_rows then rows_at (reply_lists r x) (agreed_mask r (reply_lists r x)) else []
-rows_on Outgoing r x = []
-
 abbrev pub exchange_rows : Rules → Exchange → List Row
-exchange_rows r x = rows_on r.side r x
+exchange_rows r x = learnt_rows (learns_on r.side r.grammar.learns_rows) r.limits.mask (reply_lists r x)
 
 -- own rows, with further ones learnt in their order: the newest first, one per shown word, the first 256
 abbrev pub learnt : List Row → List Row → List Row
@@ -112,5 +120,5 @@ agreed_on Outgoing now = length (released now)
 
 -- how many places are masked in agreed exchanges: incoming of replies, outgoing of calls
 abbrev pub masked_on : Side → Rules → Reading → ℕ
-masked_on Incoming r now = sum (map (λ x. length (agreed_mask r (reply_lists r x))) now.done)
-masked_on Outgoing r now = sum (map (λ ask. length (agreed_mask r (ask_lists r ask))) (released now))
+masked_on Incoming r now = sum (map (λ x. length (agreed_mask r.limits.mask (reply_lists r x))) now.done)
+masked_on Outgoing r now = sum (map (λ ask. length (agreed_mask r.limits.mask (ask_lists r ask))) (released now))
