@@ -1,15 +1,11 @@
 // The engine of a session: one link on its own, and the copies that say the same.
 #![tactic(auto)]
 
-
+mod exchange;
 mod judging;
 mod opens;
-
-
-
+mod read;
 mod setup;
-
 mod unit;
-
 
 pub use setup::Setup;
