@@ -4,7 +4,10 @@
 mod exchange;
 mod judging;
 mod opens;
+mod faults;
 mod read;
+mod stage;
+mod trouble;
 mod setup;
 mod unit;
 
