@@ -3,3 +3,4 @@ pub mod Cutting
 pub mod WholeUnits
 pub mod ReadSteps
 pub mod Faulty
+pub mod Learning

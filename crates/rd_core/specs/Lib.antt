@@ -4,3 +4,4 @@ pub mod Whole
 pub mod Seen
 pub mod Stages
 pub mod Faults
+pub mod Sending

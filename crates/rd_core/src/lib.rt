@@ -6,6 +6,7 @@ mod judging;
 mod opens;
 mod faults;
 mod read;
+mod sending;
 mod stage;
 mod trouble;
 mod setup;

@@ -3,3 +3,5 @@ pub mod Streams
 pub mod Steps
 pub mod Stays
 pub mod Stops
+pub mod Telling
+pub mod GivenSteps
