@@ -17,7 +17,7 @@ disagrees_not place None mask e = cc e
 disagrees_not place (Some copy) mask e = cc e
 
 -- no fault says that the lists agree
-fault_not : (most : MaskLimits) (lists : List (List Token)) (place : ℕ) (mask : List ℕ) → fault most lists place ≡ Some (Agreed mask) → ⊥
+pub fault_not : (most : MaskLimits) (lists : List (List Token)) (place : ℕ) (mask : List ℕ) → fault most lists place ≡ Some (Agreed mask) → ⊥
 fault_not most lists place mask e = alone (position (λ tokens. one_alone (slice_get tokens place) (token_at lists 0 place)) lists) e
   where
     masked : (t : Bool) → cond t (Some (Noise place)) (least_disagrees place (position (λ tokens. not (is_soft (slice_get tokens place))) lists)) ≡ Some (Agreed mask) → ⊥
@@ -36,7 +36,7 @@ fault_not most lists place mask e = alone (position (λ tokens. one_alone (slice
     alone None e = either (is_masked lists place) e
     alone (Some copy) e = cc e
 
-no_fault : (f : Option Verdict) (rest : Verdict) (mask : List ℕ) → (f ≡ Some (Agreed mask) → ⊥) → fault_or f rest ≡ Agreed mask → (f ≡ None) × (rest ≡ Agreed mask)
+pub no_fault : (f : Option Verdict) (rest : Verdict) (mask : List ℕ) → (f ≡ Some (Agreed mask) → ⊥) → fault_or f rest ≡ Agreed mask → (f ≡ None) × (rest ≡ Agreed mask)
 no_fault None rest mask never e = (refl, e)
 no_fault (Some v) rest mask never e = absurd (never (ap Some e))
 

@@ -1,7 +1,9 @@
 ghost use Rattle.std.specs.Prelude.{◌≡◌, ◌≤◌, ◌<◌, ◌^◌, ◌++◌, [], ◌∷◌, List, length, map, take, All, OnOk, OnErr};
 ghost use Rattle.rd_base.specs.Token.{Token, token_of};
+ghost use Rattle.rd_base.specs.Verdicts.{longest};
 ghost use Rattle.rd_verdict.specs.LiesIn.{LiesIn};
 
+use crate::judging::longest_of;
 use crate::spans::Spans;
 use crate::tokens::Tokens;
 use rd_base::{Bytes, NoMemory};
@@ -55,6 +57,13 @@ impl Copies {
         ensures most { result ≤ 8 }
     {
         self.kept.len()
+    }
+
+    /// The number of tokens of the longest list.
+    pub fn longest(&self) -> usize
+        ensures { result ≡ longest self.now }
+    {
+        longest_of(self.lists())
     }
 
     /// Cuts every list to its first so many tokens.

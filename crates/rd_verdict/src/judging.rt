@@ -39,7 +39,7 @@ fn judge_lists(lists: &[Tokens], most: MaskLimits) -> Verdict
 }
 
 /// The number of tokens of the longest list.
-fn longest_of(lists: &[Tokens]) -> usize
+pub(crate) fn longest_of(lists: &[Tokens]) -> usize
     ensures longest { result ≡ longest lists.now }
     ensures most { result < 2 ^ 32 }
 {
