@@ -1,2 +1,3 @@
 pub mod Cutting
+pub mod Lookups
 pub mod MemWrites

@@ -6,6 +6,7 @@ pub mod History
 pub mod Sent
 pub mod Verdicts
 pub mod OwnRows
+pub mod RowPlaces
 pub mod Outside
 pub mod Limits
 pub mod MemSink

@@ -1,11 +1,11 @@
 -- Equal tokens, and places at which all copies have the same.
-use Rattle.std.proofs.Common.{◌≡◌, ℕ, zero, suc, ◌<◌, ◌≤◌, Bool, true, false, cond, not, ◌&&◌, List, [], ◌∷◌, length, drop, Option, Some, None, refl, sym, ap, ap₂, ◌∙◌, ◌+◌, nat_lt, arith}
+use Rattle.std.proofs.Common.{◌≡◌, ℕ, suc, ◌≤◌, Bool, true, false, cond, not, ◌&&◌, List, [], ◌∷◌, length, drop, Option, Some, None, refl, sym, ap, ap₂, ◌∙◌, ◌+◌, nat_lt, arith}
 use Rattle.std.proofs.lemmas.Bool.{le-ltb, and_parts, and_right}
 use Rattle.std.specs.Prelude.{bytes_eq, slice_get}
-use Rattle.std.specs.List.{position, prefix_len, list_all, list_any}
+use Rattle.std.specs.List.{position, prefix_len, list_all}
 use Rattle.std.proofs.lemmas.Slice.Eq.{bytes_eq-Decides}
 use Rattle.rd_base.specs.Token.{Token}
-use Rattle.rd_base.specs.Verdicts.{same, same_kind, same_token, one_alone, token_at, in_list, fault, is_masked, is_soft, plain_fault, masked_fault, least_disagrees, or_fault}
+use Rattle.rd_base.specs.Verdicts.{same, same_kind, one_alone, token_at, in_list, fault, is_masked, is_soft, plain_fault, masked_fault, least_disagrees, or_fault}
 use Rattle.rd_base.specs.declared.values.MaskLimits.{MaskLimits}
 use Rattle.rd_base.specs.declared.values.TokenKind.{TokenKind}
 use Rattle.rd_base.specs.declared.values.TokenKind.TheVariants.{Soft, Firm, Name}

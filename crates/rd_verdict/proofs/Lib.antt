@@ -2,3 +2,4 @@ pub mod AgreedPlaces
 pub mod Alike
 pub mod Places
 pub mod RowMade
+pub mod Widened

@@ -11,3 +11,6 @@ pub use agreed::rows_of;
 pub use copies::Copies;
 pub use judging::judge;
 pub use spans::Spans;
+
+#[cfg(test)]
+mod tests;

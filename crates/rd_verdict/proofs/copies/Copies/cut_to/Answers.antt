@@ -1,4 +1,4 @@
-use Rattle.std.proofs.Common.{◌≡◌, ◌∙◌, ◌++◌, ap, sym, take, drop, map, arith, set}
+use Rattle.std.proofs.Common.{◌∙◌, ap, sym, take, set}
 use Rattle.std.proofs.lemmas.List.Edits.{map_over_more}
 use Rattle.rd_verdict.proofs.copies.Copies.cut_to.Goals as goal
 
