@@ -1,0 +1,6 @@
+use Rattle.rd_rules.proofs.Stays.{final-append}
+use Rattle.rd_rules.proofs.Steps.{reading-append}
+use Rattle.rd_rules.proofs.laws.session_laws.Goals as goal
+
+pub returns : goal.returns
+returns c = record { endings_stay = final-append; reads_on = reading-append }

@@ -1,0 +1,17 @@
+-- Laws above the definitions of a session.
+use Rattle.std.specs.Prelude.{◌≡◌, true, ◌++◌, Some}
+use Rattle.rd_base.specs.History.{History, is_well_formed}
+use Rattle.rd_base.specs.declared.values.Ending.{Ending}
+use Rattle.rd_dialect.specs.Laws.{Lawful}
+use Rattle.rd_rules.specs.Exchange.{Rules, reading}
+use Rattle.rd_rules.specs.Step.{read_further}
+use Rattle.rd_rules.specs.Sent.{final}
+
+-- an ending stays, whatever is heard next
+abbrev pub EndingsStay : Type 0
+EndingsStay = (r : Rules) (h e : History) (end : Ending) → final r h ≡ Some end → final r (h ++ e) ≡ Some end
+
+-- what is read of a whole history is what is read further from what was read of its front
+abbrev pub ReadsOn : Type 0
+ReadsOn = (r : Rules) → Lawful r.grammar → (h e : History) → is_well_formed r.limits.copies (h ++ e) ≡ true
+    → reading r (h ++ e) ≡ read_further r (reading r h) e

@@ -1,0 +1,7 @@
+ghost use Rattle.rd_rules.specs.Laws.{EndingsStay, ReadsOn};
+
+/// Laws of the definitions, for every grammar that obeys its own.
+pub fn session_laws()
+    ensures endings_stay { EndingsStay }
+    ensures reads_on { ReadsOn }
+{}

@@ -1,0 +1,4 @@
+pub mod AgreedPlaces
+pub mod Alike
+pub mod Places
+pub mod RowMade
