@@ -75,13 +75,6 @@ fn replies_for<D: Dialect>(
     Ok(bytes)
 }
 
-/// The word that a row shows.
-fn shown_word(row: &Row) -> &[u8]
-    ensures { result.now ≡ shown_of row.now }
-{
-    if row.len() > 0 { row.shown() } else { &[] }
-}
-
 /// Adds an older row behind one that is learnt: none that shows the same word, and none past the 256th.
 fn push_older(made: &mut Rows, older: &Row, row: &Row) -> Result<(), NoMemory>
     requires { length made.old ≤ 256 }
@@ -90,7 +83,7 @@ fn push_older(made: &mut Rows, older: &Row, row: &Row) -> Result<(), NoMemory>
     if made.len() >= 256 {
         return Ok(());
     }
-    if older.is_shown(shown_word(row)) {
+    if older.is_shown(row.word()) {
         return Ok(());
     }
     made.push(older)?;
