@@ -4,3 +4,4 @@ pub mod WholeUnits
 pub mod ReadSteps
 pub mod Faulty
 pub mod Learning
+pub mod Taken

@@ -5,3 +5,5 @@ pub mod Seen
 pub mod Stages
 pub mod Faults
 pub mod Sending
+pub mod Standing
+pub mod Kept

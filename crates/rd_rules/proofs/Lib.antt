@@ -5,3 +5,4 @@ pub mod Stays
 pub mod Stops
 pub mod Telling
 pub mod GivenSteps
+pub mod Moments
