@@ -5,3 +5,5 @@ pub mod ReadSteps
 pub mod Faulty
 pub mod Learning
 pub mod Taken
+pub mod Planned
+pub mod Moves

@@ -2,13 +2,14 @@
 use Rattle.std.proofs.Common.{◌≡◌, ℕ, zero, suc, ◌+◌, ◌-◌, ◌≤◌, Bool, true, false, List, [], ◌∷◌, ◌++◌, length, take, drop, map, max, min, Option, Some, None, refl, sym, ap, ap₂, subst, ◌∙◌, arith, length-append, cond, append-nil, append_assoc, Result, Ok, Err}
 use Rattle.std.specs.Prelude.{is_some, option_and_then, IfOk, OnOk, unwrap_or, ◌||◌, ◌&&◌, nat_le, ◌^◌, fold}
 use Rattle.std.specs.List.{flat_map}
+use Rattle.std.proofs.lemmas.List.{drop_at}
 use Rattle.rd_base.specs.declared.values.What.{What}
 use Rattle.rd_base.specs.declared.values.What.TheVariants.{Piece, End, ReadFail, WriteFail, Timer, Stop}
 use Rattle.rd_base.specs.declared.values.Ending.{Ending}
 use Rattle.rd_base.specs.declared.values.Ending.TheVariants as ending
 use Rattle.rd_base.specs.declared.bytes.NoMemory.{NoMemory}
 use Rattle.rd_base.specs.declared.sends.Send.{Send}
-use Rattle.rd_base.specs.Sent.{sends_to}
+use Rattle.rd_base.specs.Sent.{send_of, sends_to}
 use Rattle.rd_base.specs.Words.{last_of_list, without_last}
 use Rattle.rd_base.specs.History.{History, Entry, shortest_from, is_well_formed, piece_of, ends, stream, ended, moment, is_timer, may_follow, follows_well}
 use Rattle.rd_dialect.specs.Grammar.{Grammar}
@@ -18,7 +19,7 @@ use Rattle.rd_rules.specs.Given.{given, own_after}
 use Rattle.rd_rules.specs.Step.{grow, grow_by, grow_front, grow_front_by, with_done, given_now}
 use Rattle.rd_rules.specs.Wait.{Wait, wait, wait_of, same_wait, began_by, due_moment, limit_of}
 use Rattle.rd_rules.specs.Trouble.{Now, now_of, ends_by, trouble_of, trouble, or_else, unsolicited, unsolicited_at, unsolicited_by, first_trouble, link_fault, stopped, late, is_timer_entry, full_log_at}
-use Rattle.rd_rules.specs.Sent.{stop, final, acted, acted_of, sent}
+use Rattle.rd_rules.specs.Sent.{stop, final, acted, acted_of, sent, sent_past, step_sends}
 use Rattle.rd_rules.proofs.Streams.{follows_well-append}
 use Rattle.rd_rules.proofs.Steps.{reading-append}
 use Rattle.rd_rules.proofs.Stays.{stop-append}
@@ -28,7 +29,7 @@ use Rattle.rd_rules.proofs.Moments.{began_next, moment_next}
 use Rattle.rd_core.proofs.Learning.{sends_to-more}
 use Rattle.rd_core.proofs.Faulty.{fault_next, no_fault, nothing_fails}
 use Rattle.rd_core.specs.Faults.{fault_by}
-use Rattle.rd_core.specs.Standing.{Standing, Seen, IsTimed, IsAt, next_reading, now_after, wait_at, began_at, standing_by, standing_after, due_at, late_at, ending_at, Goes, Steps}
+use Rattle.rd_core.specs.Standing.{Standing, Seen, IsTimed, IsAt, next_reading, now_after, wait_at, began_at, standing_by, standing_after, due_at, late_at, ending_at, Goes, Steps, SendsMore}
 
 -- ---- the reading, one happening further
 
@@ -195,6 +196,10 @@ front_follows n seen (x ∷ h) e w = both_true (may_follow n seen x.what) (follo
 
 -- ---- a step of a session
 
+sends_same : (f g : ℕ → List ℕ) → ((l : ℕ) → f l ≡ g l) → (n : ℕ) → sends_to n f ≡ sends_to n g
+sends_same f g same zero = refl
+sends_same f g same (suc n) = sends_to-more n f ∙ ap₂ (λ s bs. s ++ send_of n bs) (sends_same f g same n) (same n) ∙ sym (sends_to-more n g)
+
 abbrev wait_same : (r : Rules) (h : History) → wait_at r.side (now_of r (reading r h)) ≡ wait r h
 wait_same r h = refl
 
@@ -233,7 +238,7 @@ module _ {D : Type 0} (r : Rules) (laws : Lawful r.grammar) (old : Seen D) (h : 
         since = ap (λ s. s.began) is ∙ next_began (now_after r old.at.stage (next_reading r old.at.stage e)) live (next_stage live);
       })
 
-  late_is : (new : Standing) → new.stage ≡ now_of r (reading r (h ++ e ∷ [])) → IsTimed r new (h ++ e ∷ []) → late_at r (is_timer e.what) new ≡ late r (h ++ e ∷ [])
+  late_is : (new : Standing) → new.stage ≡ now_of r (reading r (h ++ e ∷ [])) → IsTimed r new (h ++ e ∷ []) → late_at r.side r.limits (is_timer e.what) new ≡ late r (h ++ e ∷ [])
   late_is new stage timed =
       let waits : wait_at r.side new.stage ≡ wait r (h ++ e ∷ []) = ap (wait_at r.side) stage in
       let due : due_at r.side r.limits new ≡ due_moment r (h ++ e ∷ []) = ap₂ (λ b (v : Wait). min (b + limit_of r.limits v.which) (2 ^ 64 - 1)) timed.since waits in
@@ -280,26 +285,31 @@ module _ {D : Type 0} (r : Rules) (laws : Lawful r.grammar) (old : Seen D) (h : 
   steps_at new sends live steps = steps_at_by new sends (unsolicited_by r.grammar old.at.stage e.what) live refl steps
 
   -- what each link is sent by the step, and that these are the sends
-  abbrev SendsMore : List Send → Type 0
-  SendsMore sends = (more : ℕ → List ℕ) × ((l : ℕ) → sent r l (h ++ e ∷ []) ≡ sent r l h ++ more l) × (sends ≡ sends_to (r.limits.copies + 1) more)
+  sends_more : (sends : List Send) (more : ℕ → List ℕ) → ((l : ℕ) → sent r l (h ++ e ∷ []) ≡ sent r l h ++ more l) → sends ≡ sends_to (r.limits.copies + 1) more → SendsMore r h e sends
+  sends_more sends more adds are =
+      let past : (l : ℕ) → more l ≡ sent_past r h (h ++ e ∷ []) l = λ l. sym (drop_at (sent r l h) (more l) (length (sent r l h)) refl) ∙ sym (ap (drop (length (sent r l h))) (adds l)) in
+      record {
+        adds = λ l. adds l ∙ ap (λ bs. sent r l h ++ bs) (past l);
+        are = are ∙ sends_same more (sent_past r h (h ++ e ∷ [])) past (r.limits.copies + 1);
+      }
 
   quiet_sends : (n : ℕ) → sends_to n (λ l. []) ≡ []
   quiet_sends zero = refl
   quiet_sends (suc n) = sends_to-more n (λ l. []) ∙ ap (λ s. s ++ []) (quiet_sends n)
 
-  nothing_more : (sends : List Send) → sends ≡ [] → acted r (h ++ e ∷ []) ≡ acted r h → SendsMore sends
+  nothing_more : (sends : List Send) → sends ≡ [] → acted r (h ++ e ∷ []) ≡ acted r h → SendsMore r h e sends
   nothing_more sends quiet same =
-      ((λ l. []), (λ l. ap (given r l) same ∙ sym (append-nil (sent r l h))), quiet ∙ sym (quiet_sends (r.limits.copies + 1)))
+      sends_more sends (λ l. []) (λ l. ap (given r l) same ∙ sym (append-nil (sent r l h))) (quiet ∙ sym (quiet_sends (r.limits.copies + 1)))
 
-  steps_sent_by : (new : Standing) (end : Option Ending) (sends : List Send) (o : Option Ending) → old.ending ≡ None → unsolicited_by r.grammar old.at.stage e.what ≡ o → Steps r old.at e new end sends → SendsMore sends
+  steps_sent_by : (new : Standing) (end : Option Ending) (sends : List Send) (o : Option Ending) → old.ending ≡ None → unsolicited_by r.grammar old.at.stage e.what ≡ o → Steps r old.at e new end sends → SendsMore r h e sends
   steps_sent_by new end sends None live u steps =
       let goes = steps.on u in
-      ((λ l. given_now r l old.at.stage.own e.told (is_some old.at.stage.out) (next_reading r old.at.stage e)), (λ l. goes_sent sends new end l live (unsolicited_is live ∙ u) goes), goes.sent)
+      sends_more sends (λ l. given_now r l old.at.stage.own e.told (is_some old.at.stage.out) (next_reading r old.at.stage e)) (λ l. goes_sent sends new end l live (unsolicited_is live ∙ u) goes) goes.sent
   steps_sent_by new end sends (Some x) live u steps =
       let held = steps.held x u in
       nothing_more sends held.2 (acted_held r h e x (none live) (unsolicited_is live ∙ u) ∙ sym (acted_live r h (none live)))
 
-  pub steps_sent : (new : Standing) (end : Option Ending) (sends : List Send) → old.ending ≡ None → Steps r old.at e new end sends → SendsMore sends
+  pub steps_sent : (new : Standing) (end : Option Ending) (sends : List Send) → old.ending ≡ None → Steps r old.at e new end sends → SendsMore r h e sends
   steps_sent new end sends live steps = steps_sent_by new end sends (unsolicited_by r.grammar old.at.stage e.what) live refl steps
 
   pub over_at : is_some old.ending ≡ true → IsAt r old (h ++ e ∷ [])
@@ -311,5 +321,38 @@ module _ {D : Type 0} (r : Rules) (laws : Lawful r.grammar) (old : Seen D) (h : 
         timed = λ still. absurd (not_both old.ending over still);
       }
 
-  pub over_sent : (sends : List Send) → is_some old.ending ≡ true → sends ≡ [] → SendsMore sends
+  pub over_sent : (sends : List Send) → is_some old.ending ≡ true → sends ≡ [] → SendsMore r h e sends
   over_sent sends over quiet = nothing_more sends quiet (some_stop r h e (ap is_some (sym at.ending) ∙ over)).0
+
+pub none_of : (o : Option Ending) → is_some o ≡ false → o ≡ None
+none_of None e = refl
+none_of (Some x) e = cc
+
+-- ---- the start
+
+pub start_at : {D : Type 0} (r : Rules) (s : Seen D) → s.at.stage ≡ now_of r (reading r []) → s.at.entries ≡ 0 → s.at.moment ≡ 0 → s.at.began ≡ 0 → s.ending ≡ trouble_of r s.at.stage → IsAt r s []
+start_at r s stage entries latest since end =
+    let t = trouble r [] in
+    let a : acted r [] ≡ [] = acted_by r [] (is_some t) refl in
+    record {
+      stage = stage ∙ ap (λ g. now_of r (reading r g)) (sym a);
+      ending = end ∙ ap (trouble_of r) stage ∙ sym (right_none (trouble_of r (now_of r (reading r []))))
+        ∙ sym (ap (λ f. or_else f (or_else (trouble_of r (now_of r (reading r []))) None)) (nothing_fails r)) ∙ sym (final_by (trouble r) [] t refl);
+      timed = λ live. record { count = entries; latest = latest; since = since };
+    }
+  where
+    right_none : (o : Option Ending) → or_else o None ≡ o
+    right_none None = refl
+    right_none (Some x) = refl
+
+pub result_at : {D : Type 0} (r : Rules) → Lawful r.grammar → (old new : Seen D) (e : Entry) (res : Result (List Send) NoMemory) → old.ending ≡ None
+    → IfOk res (λ sends. Steps r old.at e new.at new.ending sends)
+    → OnOk res ((h : History) → is_well_formed r.limits.copies (h ++ e ∷ []) ≡ true → IsAt r old h → IsAt r new (h ++ e ∷ []))
+result_at r laws old new e (Ok sends) live steps = λ h w at. steps_at r laws old h at e w new sends live steps
+result_at r laws old new e (Err fail) live steps = tt
+
+pub result_sent : {D : Type 0} (r : Rules) → Lawful r.grammar → (old new : Seen D) (e : Entry) (res : Result (List Send) NoMemory) → old.ending ≡ None
+    → IfOk res (λ sends. Steps r old.at e new.at new.ending sends)
+    → IfOk res (λ sends. (h : History) → is_well_formed r.limits.copies (h ++ e ∷ []) ≡ true → IsAt r old h → SendsMore r h e sends)
+result_sent r laws old new e (Ok sends) live steps = λ h w at. steps_sent r laws old h at e w new.at new.ending sends live steps
+result_sent r laws old new e (Err fail) live steps = tt

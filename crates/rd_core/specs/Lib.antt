@@ -7,3 +7,4 @@ pub mod Faults
 pub mod Sending
 pub mod Standing
 pub mod Kept
+pub mod Clocks

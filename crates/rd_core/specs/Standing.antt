@@ -1,5 +1,5 @@
 -- What a session keeps, and one step of it.
-use Rattle.std.specs.Prelude.{◌≡◌, ℕ, ◌+◌, ◌-◌, ◌^◌, ◌≤◌, ◌<◌, ◌&&◌, Bool, true, List, [], ◌++◌, length, min, max, nat_le, Option, Some, None, is_some, if◌then◌else◌}
+use Rattle.std.specs.Prelude.{◌≡◌, ℕ, ◌+◌, ◌-◌, ◌^◌, ◌≤◌, ◌<◌, ◌&&◌, Bool, true, List, [], ◌∷◌, ◌++◌, length, min, max, nat_le, Option, Some, None, is_some, if◌then◌else◌}
 use Rattle.std.specs.List.{All}
 use Rattle.rd_base.specs.declared.values.Side.{Side}
 use Rattle.rd_base.specs.declared.values.Side.TheVariants.{Incoming}
@@ -17,7 +17,7 @@ use Rattle.rd_rules.specs.Given.{own_after}
 use Rattle.rd_rules.specs.Step.{grow_front_by, given_now}
 use Rattle.rd_rules.specs.Wait.{Wait, wait, wait_of, which_on, same_wait, some_open, limit_of, began_by}
 use Rattle.rd_rules.specs.Trouble.{Now, now_of, ends_by, trouble_of, unsolicited_by, or_else, full_log_at}
-use Rattle.rd_rules.specs.Sent.{acted, final}
+use Rattle.rd_rules.specs.Sent.{acted, final, sent, sent_past, step_sends}
 use Rattle.rd_core.specs.declared.setup.Setup.{Setup}
 use Rattle.rd_core.specs.Faults.{fault_by}
 
@@ -54,14 +54,17 @@ abbrev pub next_reading : Rules → Now → Entry → rule.Reading
 next_reading r now e = read r.grammar r.limits.mask (r.limits.exchanges_max - now.count) (grow_front_by e.what now.left)
 
 -- where a session stands after further exchanges
-abbrev pub now_after : Rules → Now → rule.Reading → Now
-now_after r before next = record {
-  count = before.count + length next.done;
-  bye = ends_by r.grammar before.bye next.done;
-  own = own_after r before.own next.done;
+abbrev pub now_from : Rules → ℕ → Bool → List Row → rule.Reading → Now
+now_from r count bye own next = record {
+  count = count + length next.done;
+  bye = ends_by r.grammar bye next.done;
+  own = own_after r own next.done;
   left = next.left;
   out = next.out;
 }
+
+abbrev pub now_after : Rules → Now → rule.Reading → Now
+now_after r before next = now_from r before.count before.bye before.own next
 
 -- what it waits for
 abbrev pub wait_at : Side → Now → Wait
@@ -82,13 +85,13 @@ abbrev pub due_at : Side → Limits → Standing → ℕ
 due_at side limits s = min (s.began + limit_of limits (wait_at side s.stage).which) (2 ^ 64 - 1)
 
 -- a look at the clock at or past that moment
-abbrev pub late_at : Rules → Bool → Standing → Option Ending
-late_at r looks s = if looks && nat_le (due_at r.side r.limits s) s.moment then Some (Late (wait_at r.side s.stage).which) else None
+abbrev pub late_at : Side → Limits → Bool → Standing → Option Ending
+late_at side limits looks s = if looks && nat_le (due_at side limits s) s.moment then Some (Late (wait_at side s.stage).which) else None
 
 -- how a session has ended that stands there after an entry that withholds nothing
 abbrev pub ending_at : Rules → Entry → Standing → Option Ending
 ending_at r e s =
-    or_else (or_else (fault_by r.limits.copies e.what) (late_at r (is_timer e.what) s))
+    or_else (or_else (fault_by r.limits.copies e.what) (late_at r.side r.limits (is_timer e.what) s))
     (or_else (trouble_of r s.stage) (full_log_at s.entries))
 
 -- one step of a session that hasn't ended
@@ -101,3 +104,8 @@ pub record Goes (r : Rules) (old : Standing) (e : Entry) (new : Standing) (end :
 pub record Steps (r : Rules) (old : Standing) (e : Entry) (new : Standing) (end : Option Ending) (sends : List Send) : Type 0 where
   pub on : unsolicited_by r.grammar old.stage e.what ≡ None → Goes r old e new end sends
   pub held : (x : Ending) → unsolicited_by r.grammar old.stage e.what ≡ Some x → (new.stage ≡ old.stage) × (end ≡ Some x) × (sends ≡ [])
+
+-- what a step sends: what each link has been sent with the entry past what it had been sent, in the order of links
+pub record SendsMore (r : Rules) (h : History) (e : Entry) (sends : List Send) : Type 0 where
+  pub adds : (l : ℕ) → sent r l (h ++ e ∷ []) ≡ sent r l h ++ sent_past r h (h ++ e ∷ []) l
+  pub are : sends ≡ step_sends r h (h ++ e ∷ [])

@@ -108,7 +108,7 @@ fn big_asker<D: Dialect>(
     due: Due,
     stage: &Stage,
 ) -> Result<Option<Ending>, NoMemory>
-    ensures { IfOk result (λ e. e ≡ rule.big_among (D.grammar dialect.now) setup.now.limits.unit_max (not (is_some stage.now.out)) due (rule.open_asking setup.now.side (seen_stage stage.now []))) }
+    ensures { IfOk result (λ e. e ≡ rule.big_among (D.grammar dialect.now) setup.now.limits.unit_max (not (is_some stage.now.out)) due (rule.open_asking setup.now.side stage.now.left.asking.items (option_map seen_request stage.now.out))) }
 {
     let most = setup.limits.unit_max;
     let asking = stage.left.asking.as_slice();
@@ -195,7 +195,7 @@ fn is_open(one: &Open) -> bool
     !one.bytes().is_empty()
 }
 
-fn some_open(opens: &[Open]) -> bool
+pub(crate) fn some_open(opens: &[Open]) -> bool
     ensures { result ≡ wait.some_open opens.now }
 {
     opens.iter().any(|one| is_open(one))
