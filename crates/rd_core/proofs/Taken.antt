@@ -356,3 +356,11 @@ pub result_sent : {D : Type 0} (r : Rules) → Lawful r.grammar → (old new : S
     → IfOk res (λ sends. (h : History) → is_well_formed r.limits.copies (h ++ e ∷ []) ≡ true → IsAt r old h → SendsMore r h e sends)
 result_sent r laws old new e (Ok sends) live steps = λ h w at. steps_sent r laws old h at e w new.at new.ending sends live steps
 result_sent r laws old new e (Err fail) live steps = tt
+
+-- what a live session waits for, and until when
+pub due_is : {D : Type 0} (r : Rules) (s : Seen D) (h : History) → IsAt r s h → s.ending ≡ None
+    → (due_at r.side r.limits s.at ≡ due_moment r h) × ((wait_at r.side s.at.stage).which ≡ (wait r h).which)
+due_is r s h at live =
+    let stage : s.at.stage ≡ now_of r (reading r h) = at.stage ∙ ap (λ g. now_of r (reading r g)) (acted_live r h (sym at.ending ∙ live)) in
+    let waits : wait_at r.side s.at.stage ≡ wait r h = ap (wait_at r.side) stage in
+    (ap₂ (λ b (v : Wait). min (b + limit_of r.limits v.which) (2 ^ 64 - 1)) (at.timed live).since waits, ap (λ (v : Wait). v.which) waits)

@@ -109,3 +109,7 @@ pub record Steps (r : Rules) (old : Standing) (e : Entry) (new : Standing) (end 
 pub record SendsMore (r : Rules) (h : History) (e : Entry) (sends : List Send) : Type 0 where
   pub adds : (l : ℕ) → sent r l (h ++ e ∷ []) ≡ sent r l h ++ sent_past r h (h ++ e ∷ []) l
   pub are : sends ≡ step_sends r h (h ++ e ∷ [])
+
+-- a session of a client before the instances
+abbrev pub IsIncoming : {D : Type 0} → Seen D → Type 0
+IsIncoming s = s.setup.side ≡ Incoming

@@ -1,10 +1,11 @@
-ghost use Rattle.std.specs.Prelude.{◌≡◌, ◌≤◌, ◌<◌, ◌+◌, ◌++◌, [], ◌∷◌, List, ℕ, None, Some, true, OnOk, OnErr, IfOk, false, is_some};
+ghost use Rattle.std.specs.Prelude.{◌≡◌, ◌≤◌, ◌<◌, ◌+◌, ◌++◌, [], ◌∷◌, List, ℕ, None, Some, true, OnOk, OnErr, IfOk, IfSome, false, is_some, is_none};
 ghost use Rattle.rd_base.specs.declared.values.Side.TheVariants.{Incoming};
 ghost use Rattle.rd_base.specs.Limits.{AreLimits};
 ghost use Rattle.rd_base.specs.History.{Entry, is_well_formed, is_timer};
 ghost use Rattle.rd_rules.specs.Exchange.{Rules};
 ghost use Rattle.rd_rules.specs.Given.{learnt};
-ghost use Rattle.rd_rules.specs.Sent.{final};
+ghost use Rattle.rd_rules.specs.Sent.{final, exchanges};
+ghost use Rattle.rd_rules.specs.Wait.{wait, due_moment};
 ghost use Rattle.rd_rules.specs.Trouble.{or_else, full_log_at};
 ghost use Rattle.rd_core.specs.Faults.{fault_by};
 ghost use Rattle.rd_core.specs.Seen.{rules_of};
@@ -20,8 +21,8 @@ use crate::setup::Setup;
 use crate::stage::Stage;
 use crate::start::start_front;
 use crate::trouble::or_else;
-use crate::waits::{clock_after, full_log, late};
-use rd_base::{Ending, Happening, NoMemory, Rows, Sends, What};
+use crate::waits::{clock_after, due_at, full_log, late, which_at};
+use rd_base::{Ending, Happening, NoMemory, Rows, Sends, What, Which};
 use rd_dialect::Dialect;
 use rd_token_map::OwnRows;
 use std::alloc::Global;
@@ -97,6 +98,27 @@ impl<D: Dialect> Session<D> {
         ensures ending { (h : List Entry) → IsAt (rules_of (D.grammar self.now.dialect) self.now.setup) self.now h → result ≡ final (rules_of (D.grammar self.now.dialect) self.now.setup) h }
     {
         self.ending
+    }
+
+    /// How many exchanges are agreed.
+    pub fn exchanges(&self) -> u32
+        ensures { (h : List Entry) → IsAt (rules_of (D.grammar self.now.dialect) self.now.setup) self.now h → result ≡ exchanges (rules_of (D.grammar self.now.dialect) self.now.setup) h }
+    {
+        self.stage.count
+    }
+
+    /// The moment in milliseconds at which the session's wait ends, and what it waits for. None after an
+    /// ending.
+    pub fn due(&self) -> Option<(u64, Which)>
+        ensures over { is_none result ≡ is_some self.now.ending }
+        ensures due { (h : List Entry) → IsAt (rules_of (D.grammar self.now.dialect) self.now.setup) self.now h
+            → IfSome result (λ d. (d.0 ≡ due_moment (rules_of (D.grammar self.now.dialect) self.now.setup) h) × (d.1 ≡ (wait (rules_of (D.grammar self.now.dialect) self.now.setup) h).which)) }
+    {
+        if self.ending.is_some() {
+            return None;
+        }
+        let due = due_at(&self.setup, &self.stage, self.clock);
+        Some((due, which_at(self.setup.side, &self.stage)))
     }
 
     /// One step, with the rows told to it. After an ending, and of a piece past 16,384 bytes, nothing is

@@ -1,4 +1,4 @@
-use Rattle.std.proofs.Common.{◌≡◌, ◌-◌, ap, ap₂, sym, ◌∙◌, arith, refl, [], None}
+use Rattle.std.proofs.Common.{◌≡◌, ◌-◌, ap, ap₂, sym, ◌∙◌, arith, refl, false, List, [], None}
 use Rattle.rd_rules.specs.Exchange as rule
 use Rattle.rd_rules.specs.Given.{learnt}
 use Rattle.rd_rules.specs.Trouble.{full_log_at, or_else}
