@@ -59,9 +59,9 @@ impl<D: Dialect> InSession<D> {
         ensures sends { IfOk result (λ sends. (h : History) → is_well_formed self.old.limits.copies (h ++ entry_of happening.now told.now ∷ []) ≡ true
             → IsAt (session_rules (D.grammar self.old.dialect) self.old) self.old h
             → sends ≡ step_sends (session_rules (D.grammar self.old.dialect) self.old) h (h ++ entry_of happening.now told.now ∷ [])) }
-        ensures adds { IfOk result (λ sends. (h : History) (l : ℕ) → is_well_formed self.old.limits.copies (h ++ entry_of happening.now told.now ∷ []) ≡ true
+        ensures adds { OnOk result ((h : History) → is_well_formed self.old.limits.copies (h ++ entry_of happening.now told.now ∷ []) ≡ true
             → IsAt (session_rules (D.grammar self.old.dialect) self.old) self.old h
-            → sent (session_rules (D.grammar self.old.dialect) self.old) l (h ++ entry_of happening.now told.now ∷ [])
+            → (l : ℕ) → sent (session_rules (D.grammar self.old.dialect) self.old) l (h ++ entry_of happening.now told.now ∷ [])
                 ≡ sent (session_rules (D.grammar self.old.dialect) self.old) l h ++ sent_past (session_rules (D.grammar self.old.dialect) self.old) h (h ++ entry_of happening.now told.now ∷ []) l) }
         ensures over { OnOk result (is_some self.old.ending ≡ true → self.new ≡ self.old) }
         ensures err { OnErr result (self.new ≡ self.old) }
