@@ -1,0 +1,50 @@
+ghost use Rattle.std.specs.Prelude.{◌≡◌, ◌+◌, ◌≤◌, length, IfSome, Some};
+ghost use Rattle.rd_pg_frame.specs.Messages.{be_u16_at, be_u32_at, is_length};
+
+/// A message: its letter, and the places where its content begins and where it ends.
+#[derive(Clone, Copy, Debug, PartialEq, Eq)]
+pub struct Message {
+    pub letter: u8,
+    pub from: usize,
+    pub to: usize,
+}
+
+/// The Int16 at this place, read as an unsigned number.
+pub fn be_u16_at(bytes: &[u8], at: usize) -> u16
+    requires { at + 2 ≤ length bytes.now }
+    ensures { result ≡ be_u16_at bytes.now at }
+{
+    u16::from_be_bytes([bytes[at], bytes[at + 1]])
+}
+
+/// The Int32 at this place, read as an unsigned number.
+pub fn be_u32_at(bytes: &[u8], at: usize) -> u32
+    requires { at + 4 ≤ length bytes.now }
+    ensures { result ≡ be_u32_at bytes.now at }
+{
+    u32::from_be_bytes([bytes[at], bytes[at + 1], bytes[at + 2], bytes[at + 3]])
+}
+
+/// The whole message that stands at this place.
+pub fn message_at(bytes: &[u8], at: usize) -> Option<Message> {
+    let rest = bytes.get(at..)?;
+    if rest.len() < 5 {
+        return None;
+    }
+    let len = be_u32_at(rest, 1);
+    if !is_length(len) || rest.len() - 1 < len as usize {
+        return None;
+    }
+    Some(Message {
+        letter: rest[0],
+        from: at + 5,
+        to: at + 1 + len as usize,
+    })
+}
+
+/// Whether a message may have this length: it counts its own four bytes, and is no negative Int32.
+pub fn is_length(len: u32) -> bool
+    ensures { result ≡ is_length len }
+{
+    (4..1 << 31).contains(&len)
+}

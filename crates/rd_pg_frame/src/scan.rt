@@ -1,0 +1,101 @@
+ghost use Rattle.std.specs.Prelude.{◌≡◌, ◌≤◌, length};
+ghost use Rattle.rd_pg_frame.specs.Letters.{letters_of};
+ghost use Rattle.rd_pg_frame.specs.Scanning.{scan_request, scan_reply, scan_messages, scan_packet, packet_lengths, scan_answer, scan_nothing};
+
+use crate::front::front_of;
+use crate::message::be_u32_at;
+use crate::place::Place;
+use rd_base::{Note, Phase, Scan, Side};
+
+const SSL_REQUEST: u32 = 80_877_103;
+const GSS_REQUEST: u32 = 80_877_104;
+const PROTOCOL_3_0: u32 = 196_608;
+
+/// What the bytes of a client come to in this phase.
+pub fn scan_request(phase: Phase, bytes: &[u8]) -> Scan
+    ensures { result ≡ scan_request phase bytes.now }
+{
+    match phase.0 {
+        0 => scan_packet(bytes),
+        1 => scan_messages(Place::Password, bytes),
+        2 => scan_messages(Place::Ready, bytes),
+        _ => scan_nothing(bytes),
+    }
+}
+
+/// What the bytes of a backend come to after a request with this note.
+pub fn scan_reply(side: Side, note: Note, bytes: &[u8]) -> Scan
+    ensures { result ≡ scan_reply side note bytes.now }
+{
+    match note.0 {
+        1 => scan_answer(b'S', bytes),
+        2 => scan_answer(b'G', bytes),
+        3 => scan_messages(Place::StartupReply(side), bytes),
+        4 => scan_messages(Place::PasswordReply, bytes),
+        5 | 6 => scan_messages(Place::QueryReply, bytes),
+        _ => scan_nothing(bytes),
+    }
+}
+
+fn scan_messages(place: Place, bytes: &[u8]) -> Scan
+    ensures { result ≡ scan_messages (letters_of place) bytes.now }
+{
+    let mut at = 0;
+    loop {
+        match front_of(place, at == 0, &bytes[at..]) {
+            Ok(front) if front.is_last => return Scan::Whole(at + front.size),
+            Ok(front) => at += front.size,
+            Err(scan) => return scan,
+        }
+    }
+}
+
+fn scan_packet(bytes: &[u8]) -> Scan
+    ensures { result ≡ scan_packet packet_lengths bytes.now }
+{
+    if bytes.len() < 4 {
+        return Scan::More;
+    }
+    let len = be_u32_at(bytes, 0);
+    if !(8..=10_000).contains(&len) {
+        return Scan::Bad;
+    }
+    if bytes.len() < 8 {
+        return Scan::More;
+    }
+    let code = be_u32_at(bytes, 4);
+    let fits = match code {
+        SSL_REQUEST | GSS_REQUEST => len == 8,
+        PROTOCOL_3_0 => len > 8,
+        _ => return Scan::Unsupported(code),
+    };
+    if !fits {
+        Scan::Bad
+    } else if bytes.len() < len as usize {
+        Scan::More
+    } else {
+        Scan::Whole(len as usize)
+    }
+}
+
+/// The answer to a request for encryption, which this byte would grant.
+fn scan_answer(granting: u8, bytes: &[u8]) -> Scan
+    ensures { result ≡ scan_answer granting bytes.now }
+{
+    match bytes.first() {
+        None => Scan::More,
+        Some(b'N') => Scan::Whole(1),
+        Some(answer) if *answer == granting => Scan::Unsupported(granting as u32),
+        Some(_) => Scan::Bad,
+    }
+}
+
+fn scan_nothing(bytes: &[u8]) -> Scan
+    ensures { result ≡ scan_nothing bytes.now }
+{
+    if bytes.is_empty() {
+        Scan::More
+    } else {
+        Scan::Bad
+    }
+}
