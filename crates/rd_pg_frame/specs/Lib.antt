@@ -5,3 +5,5 @@ pub mod Scanning
 pub mod FrontLaws
 pub mod Framing
 pub mod MessageLaws
+pub mod PacketLaws
+pub mod ScanLaws
