@@ -66,6 +66,14 @@ not_front : (letters : Letters) (is_first : Bool) (bytes : List ℕ) → NotWhol
 not_front letters is_first [] = not_more
 not_front letters is_first (letter ∷ rest) = not_then (role_of letters is_first letter) (sized letters rest) (not_role letters is_first letter) (not_sized letters rest)
 
+-- what is no unit has no length that bytes before it could change
+pub stopped_behind : (size : ℕ) (letters : Letters) (is_first : Bool) (bytes : List ℕ) (scan : Scan) → front_of letters is_first bytes ≡ Err scan → behind size scan ≡ scan
+stopped_behind size letters is_first bytes (Whole len) e = absurd ((not_front letters is_first bytes).never len e)
+stopped_behind size letters is_first bytes More e = refl
+stopped_behind size letters is_first bytes Bad e = refl
+stopped_behind size letters is_first bytes TooBig e = refl
+stopped_behind size letters is_first bytes (Unsupported code) e = refl
+
 behind_whole : (size : ℕ) (scan : Scan) (len : ℕ) → behind size scan ≡ Whole len → (k : ℕ) × (scan ≡ Whole k) × (size + k ≡ len)
 behind_whole size (Whole k) len e = let same : size + k ≡ len = cc e in (k, refl, same)
 behind_whole size More len e = absurd (cc e)
