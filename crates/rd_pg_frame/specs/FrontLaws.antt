@@ -183,10 +183,11 @@ ends_keeps letters Authentication len content more =
     let after = code_ends letters (be_u32 (take 4 (content ++ more))) in
     keeps_bad (ltb len 8) _ _ (Err Bad)
     (keeps_open (ltb (length content) 4) (ltb (length (content ++ more)) 4) before after
-        (λ is.
-            let four : 4 ≤ length content = ltb-false (length content) 4 is in
-            (le-ltb (length (content ++ more)) 4 (omega (arith, length-append content more)),
-            keeps_same before after (ap (λ b. code_ends letters (be_u32 b)) (sym (take-append-le 4 content more four))))))
+    (λ is.
+    let four : 4 ≤ length content = ltb-false (length content) 4 is in (
+      le-ltb (length (content ++ more)) 4 (omega (arith, length-append content more)),
+      keeps_same before after (ap (λ b. code_ends letters (be_u32 b)) (sym (take-append-le 4 content more four))),
+    )))
 ends_keeps letters Status len [] more = keeps_cond (eqb len 5) (Err More) (status_ends more) (Err Bad) (λ told. absurd (told refl))
 ends_keeps letters Status len (status ∷ rest) more = keeps_same _ _ refl
 
@@ -201,16 +202,17 @@ measured_keeps : (letters : Letters) (role : Role) (len : ℕ) (rest more : List
 measured_keeps letters role len rest more four =
     keeps_cond (is_length len) _ _ (Err Bad)
     (keeps_then (ends letters role len (drop 4 rest)) (ends letters role len (drop 4 (rest ++ more))) (if_there len rest) (if_there len (rest ++ more))
-        (subst (λ c. Keeps (ends letters role len (drop 4 rest)) (ends letters role len c)) (sym (drop-append-le 4 rest more four)) (ends_keeps letters role len (drop 4 rest) more))
-        (there_keeps len rest more))
+    (subst (λ c. Keeps (ends letters role len (drop 4 rest)) (ends letters role len c)) (sym (drop-append-le 4 rest more four)) (ends_keeps letters role len (drop 4 rest) more))
+    (there_keeps len rest more))
 
 sized_keeps : (letters : Letters) (rest more : List ℕ) (role : Role) → Keeps (sized letters rest role) (sized letters (rest ++ more) role)
 sized_keeps letters rest more role =
     keeps_open (ltb (length rest) 4) (ltb (length (rest ++ more)) 4) (measured letters role (be_u32 (take 4 rest)) rest) (measured letters role (be_u32 (take 4 (rest ++ more))) (rest ++ more))
     (λ is.
-        let four : 4 ≤ length rest = ltb-false (length rest) 4 is in
-        (le-ltb (length (rest ++ more)) 4 (omega (arith, length-append rest more)),
-        subst (λ b. Keeps (measured letters role (be_u32 (take 4 rest)) rest) (measured letters role (be_u32 b) (rest ++ more))) (sym (take-append-le 4 rest more four)) (measured_keeps letters role (be_u32 (take 4 rest)) rest more four)))
+    let four : 4 ≤ length rest = ltb-false (length rest) 4 is in (
+      le-ltb (length (rest ++ more)) 4 (omega (arith, length-append rest more)),
+      subst (λ b. Keeps (measured letters role (be_u32 (take 4 rest)) rest) (measured letters role (be_u32 b) (rest ++ more))) (sym (take-append-le 4 rest more four)) (measured_keeps letters role (be_u32 (take 4 rest)) rest more four),
+    ))
 
 pub front_keeps : (letters : Letters) (is_first : Bool) (bytes more : List ℕ) → Keeps (front_of letters is_first bytes) (front_of letters is_first (bytes ++ more))
 front_keeps letters is_first [] more = λ told. absurd (told refl)

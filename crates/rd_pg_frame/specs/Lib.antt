@@ -2,6 +2,8 @@ pub mod Messages
 pub mod Letters
 pub mod Fronts
 pub mod Scanning
+pub mod Phases
+pub mod MessagePlaces
 pub mod FrontLaws
 pub mod Framing
 pub mod MessageLaws

@@ -1,6 +1,6 @@
 -- Numbers and messages in bytes.
 -- PostgreSQL manual, Frontend/Backend Protocol, Message Data Types and Message Formats.
-use Rattle.std.specs.Prelude.{◌≡◌, ℕ, ◌+◌, ◌-◌, ◌≤◌, ◌<◌, ◌^◌, ◌==◌, ◌&&◌, nat_le, nat_lt, Bool, if◌then◌else◌, List, [], ◌∷◌, ◌++◌, length, take, drop, Option, Some, None, slice_range}
+use Rattle.std.specs.Prelude.{◌≡◌, ℕ, ◌+◌, ◌-◌, ◌≤◌, ◌<◌, ◌^◌, ◌==◌, ◌&&◌, nat_le, nat_lt, Bool, if◌then◌else◌, List, [], ◌∷◌, ◌++◌, length, take, drop, Option, Some, None, slice_index, slice_range}
 use Rattle.std.specs.List.{list_any}
 use Rattle.std.specs.Int.{w16, w32, from_be_bytes}
 use Rattle.rd_pg_frame.specs.declared.message.Message.{Message}
@@ -33,21 +33,18 @@ pub record IsMessage (letter : ℕ) (content bytes : List ℕ) : Type 0 where
   pub fits : 4 + length content < 2 ^ 31
   pub is : letter ∷ size ++ content ≡ bytes
 
--- a message stands at this place, and this is where its content lies
+-- a whole message stands at this place: its letter, its length, and its content from one place to another
 pub record IsMessageAt (bytes : List ℕ) (at : ℕ) (m : Message) : Type 0 where
+  pub letter : m.letter ≡ slice_index bytes at
   pub from : m.from ≡ at + 5
+  pub counts : m.to ≡ at + 1 + be_u32_at bytes (at + 1)
   pub ordered : m.from ≤ m.to
   pub within : m.to ≤ length bytes
-  pub one : IsMessage m.letter (slice_range bytes m.from m.to) (slice_range bytes at m.to)
-
--- the message at the front of these bytes, the first of which is the byte at this place
-abbrev pub message_front : ℕ → List ℕ → Option Message
-message_front at [] = None
-message_front at (letter ∷ rest) =
-    let len = be_u32 (take 4 rest) in
-    if nat_le 4 (length rest) && is_length len && nat_le len (length rest)
-    then Some (record { letter = letter; from = at + 5; to = at + 1 + len })
-    else None
+  pub fits : m.to < at + 1 + 2 ^ 31
 
 abbrev pub message_at : List ℕ → ℕ → Option Message
-message_at bytes at = message_front at (drop at bytes)
+message_at bytes at =
+    let len = be_u32_at bytes (at + 1) in
+    if nat_le (at + 5) (length bytes) && is_length len && nat_le (at + 1 + len) (length bytes)
+    then Some (record { letter = slice_index bytes at; from = at + 5; to = at + 1 + len })
+    else None

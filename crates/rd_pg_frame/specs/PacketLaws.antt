@@ -44,12 +44,13 @@ keeps_coded lengths len bytes more =
     let later = be_u32 (take 4 (drop 4 (bytes ++ more))) in
     keeps_open (ltb (length bytes) 8) (ltb (length (bytes ++ more)) 8) (fitting code (lengths code) len bytes) (fitting later (lengths later) len (bytes ++ more))
     (λ is.
-        let eight : 8 ≤ length bytes = ltb-false (length bytes) 8 is in
-        let past : 4 ≤ length bytes = omega arith in
-        let room : 4 ≤ length (drop 4 bytes) = omega (arith, length-drop 4 bytes) in
-        let same : later ≡ code = ap (λ b. be_u32 (take 4 b)) (drop-append-le 4 bytes more past) ∙ ap be_u32 (take-append-le 4 (drop 4 bytes) more room) in
-        (le-ltb (length (bytes ++ more)) 8 (omega (arith, length-append bytes more)),
-        subst (λ c. Keeps (fitting code (lengths code) len bytes) (fitting c (lengths c) len (bytes ++ more))) (sym same) (keeps_fitting code (lengths code) len bytes more)))
+    let eight : 8 ≤ length bytes = ltb-false (length bytes) 8 is in
+    let past : 4 ≤ length bytes = omega arith in
+    let room : 4 ≤ length (drop 4 bytes) = omega (arith, length-drop 4 bytes) in
+    let same : later ≡ code = ap (λ b. be_u32 (take 4 b)) (drop-append-le 4 bytes more past) ∙ ap be_u32 (take-append-le 4 (drop 4 bytes) more room) in (
+      le-ltb (length (bytes ++ more)) 8 (omega (arith, length-append bytes more)),
+      subst (λ c. Keeps (fitting code (lengths code) len bytes) (fitting c (lengths c) len (bytes ++ more))) (sym same) (keeps_fitting code (lengths code) len bytes more),
+    ))
 
 keeps_packet : (lengths : ℕ → Option (ℕ × ℕ)) (bytes more : List ℕ) → Keeps (scan_packet lengths bytes) (scan_packet lengths (bytes ++ more))
 keeps_packet lengths bytes more =
@@ -57,11 +58,12 @@ keeps_packet lengths bytes more =
     let later = be_u32 (take 4 (bytes ++ more)) in
     keeps_open (ltb (length bytes) 4) (ltb (length (bytes ++ more)) 4) (cond (leb 8 len && leb len 10000) (coded lengths len bytes) Bad) (cond (leb 8 later && leb later 10000) (coded lengths later (bytes ++ more)) Bad)
     (λ is.
-        let four : 4 ≤ length bytes = ltb-false (length bytes) 4 is in
-        let same : later ≡ len = ap be_u32 (take-append-le 4 bytes more four) in
-        (le-ltb (length (bytes ++ more)) 4 (omega (arith, length-append bytes more)),
-        subst (λ n. Keeps (cond (leb 8 len && leb len 10000) (coded lengths len bytes) Bad) (cond (leb 8 n && leb n 10000) (coded lengths n (bytes ++ more)) Bad)) (sym same)
-        (keeps_cond (leb 8 len && leb len 10000) (coded lengths len bytes) (coded lengths len (bytes ++ more)) Bad (keeps_coded lengths len bytes more))))
+    let four : 4 ≤ length bytes = ltb-false (length bytes) 4 is in
+    let same : later ≡ len = ap be_u32 (take-append-le 4 bytes more four) in (
+      le-ltb (length (bytes ++ more)) 4 (omega (arith, length-append bytes more)),
+      subst (λ n. Keeps (cond (leb 8 len && leb len 10000) (coded lengths len bytes) Bad) (cond (leb 8 n && leb n 10000) (coded lengths n (bytes ++ more)) Bad)) (sym same)
+          (keeps_cond (leb 8 len && leb len 10000) (coded lengths len bytes) (coded lengths len (bytes ++ more)) Bad (keeps_coded lengths len bytes more)),
+    ))
 
 -- the packet that stands at the front
 pub record IsWhole (lengths : ℕ → Option (ℕ × ℕ)) (bytes : List ℕ) (len : ℕ) : Type 0 where
@@ -136,7 +138,7 @@ packet_itself lengths bytes len w =
     let room : 4 ≤ len - 4 = omega arith in
     let there = w.there in
     let same : take 4 (drop 4 (take len bytes)) ≡ take 4 (drop 4 bytes) =
-        ap (λ n. take 4 (drop 4 (take n bytes))) (omega arith) ∙ ap (take 4) (drop-take 4 (len - 4) bytes) ∙ take-take 4 (len - 4) (drop 4 bytes) room in
+    ap (λ n. take 4 (drop 4 (take n bytes))) (omega arith) ∙ ap (take 4) (drop-take 4 (len - 4) bytes) ∙ take-take 4 (len - 4) (drop 4 bytes) room in
     record {
       least = w.least;
       most = w.most;

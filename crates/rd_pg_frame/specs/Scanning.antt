@@ -54,7 +54,7 @@ scan_packet lengths bytes =
     else let len = be_u32 (take 4 bytes) in
     if nat_le 8 len && nat_le len 10000
     then (if nat_lt (length bytes) 8 then More
-        else let code = be_u32 (take 4 (drop 4 bytes)) in fitting code (lengths code) len bytes)
+    else let code = be_u32 (take 4 (drop 4 bytes)) in fitting code (lengths code) len bytes)
     else Bad
 
 -- the answer to a request for encryption: `N` refuses it, and this letter would grant it.

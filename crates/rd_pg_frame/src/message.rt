@@ -1,5 +1,5 @@
 ghost use Rattle.std.specs.Prelude.{◌≡◌, ◌+◌, ◌≤◌, length, IfSome, Some};
-ghost use Rattle.rd_pg_frame.specs.Messages.{be_u16_at, be_u32_at, is_length};
+ghost use Rattle.rd_pg_frame.specs.Messages.{be_u16_at, be_u32_at, is_length, message_at, IsMessageAt};
 
 /// A message: its letter, and the places where its content begins and where it ends.
 #[derive(Clone, Copy, Debug, PartialEq, Eq)]
@@ -25,18 +25,21 @@ pub fn be_u32_at(bytes: &[u8], at: usize) -> u32
     u32::from_be_bytes([bytes[at], bytes[at + 1], bytes[at + 2], bytes[at + 3]])
 }
 
-/// The whole message that stands at this place.
-pub fn message_at(bytes: &[u8], at: usize) -> Option<Message> {
-    let rest = bytes.get(at..)?;
-    if rest.len() < 5 {
+/// The message that stands at this place. `None` where no whole one does.
+pub fn message_at(bytes: &[u8], at: usize) -> Option<Message>
+    ensures value { result ≡ message_at bytes.now at }
+    ensures there { IfSome result (IsMessageAt bytes.now at) }
+    ensures none { (m : Message) → IsMessageAt bytes.now at m → result ≡ Some m }
+{
+    if bytes.len() < 5 || at > bytes.len() - 5 {
         return None;
     }
-    let len = be_u32_at(rest, 1);
-    if !is_length(len) || rest.len() - 1 < len as usize {
+    let len = be_u32_at(bytes, at + 1);
+    if !is_length(len) || len as usize > bytes.len() - at - 1 {
         return None;
     }
     Some(Message {
-        letter: rest[0],
+        letter: bytes[at],
         from: at + 5,
         to: at + 1 + len as usize,
     })

@@ -88,8 +88,8 @@ fn query_role(letter: u8) -> Result<Role, Scan>
     ensures { result ≡ role_of query_reply false letter }
 {
     match letter {
-        b'T' | b'D' | b'C' | b'E' | b'N' | b'I' | b'S' | b'1' | b'2' | b'3' | b'n' | b's'
-        | b't' => Ok(Role::Inner),
+        b'T' | b'D' | b'C' | b'E' | b'N' | b'I' | b'S' | b'1' | b'2' | b'3' | b'n' | b's' | b't' =>
+            Ok(Role::Inner),
         b'Z' => Ok(Role::Status),
         _ => Err(refused_reply(letter)),
     }

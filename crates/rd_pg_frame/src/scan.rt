@@ -1,5 +1,7 @@
-ghost use Rattle.std.specs.Prelude.{◌≡◌, ◌≤◌, length};
+ghost use Rattle.std.specs.Prelude.{◌≡◌, ◌≢◌, ℕ};
+ghost use Rattle.rd_base.specs.declared.values.Scan.TheVariants.{Whole};
 ghost use Rattle.rd_pg_frame.specs.Letters.{letters_of};
+ghost use Rattle.rd_pg_frame.specs.Framing.{IsFraming};
 ghost use Rattle.rd_pg_frame.specs.Scanning.{scan_request, scan_reply, scan_messages, scan_packet, packet_lengths, scan_answer, scan_nothing};
 
 use crate::front::front_of;
@@ -7,13 +9,18 @@ use crate::message::be_u32_at;
 use crate::place::Place;
 use rd_base::{Note, Phase, Scan, Side};
 
-const SSL_REQUEST: u32 = 80_877_103;
-const GSS_REQUEST: u32 = 80_877_104;
+/// The code of SSLRequest.
+pub const SSL_REQUEST: u32 = 80_877_103;
+/// The code of GSSENCRequest.
+pub const GSS_REQUEST: u32 = 80_877_104;
+/// The version of the protocol, as a startup names it.
 const PROTOCOL_3_0: u32 = 196_608;
 
-/// What the bytes of a client come to in this phase.
+/// What the bytes of a client come to in this phase: 0 is Open, 1 Password, 2 Ready, 3 Over.
 pub fn scan_request(phase: Phase, bytes: &[u8]) -> Scan
-    ensures { result ≡ scan_request phase bytes.now }
+    ensures scan { result ≡ scan_request phase bytes.now }
+    ensures framing { IsFraming (scan_request phase) }
+    ensures over { phase.0 ≡ 3 → (len : ℕ) → result ≢ Whole len }
 {
     match phase.0 {
         0 => scan_packet(bytes),
@@ -25,7 +32,8 @@ pub fn scan_request(phase: Phase, bytes: &[u8]) -> Scan
 
 /// What the bytes of a backend come to after a request with this note.
 pub fn scan_reply(side: Side, note: Note, bytes: &[u8]) -> Scan
-    ensures { result ≡ scan_reply side note bytes.now }
+    ensures scan { result ≡ scan_reply side note bytes.now }
+    ensures framing { IsFraming (scan_reply side note) }
 {
     match note.0 {
         1 => scan_answer(b'S', bytes),

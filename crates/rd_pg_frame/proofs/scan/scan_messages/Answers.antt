@@ -25,5 +25,5 @@ returns-in-Err c =
     let letters = letters_of c.args.place in
     let is = ap (front_of letters (at == 0)) (sym (take_rest bytes at)) ∙ sym c.front_of.ensures.front ∙ c.in-Err.is in
     sym (c.loop-front.invariant.same
-        ∙ ap (behind at) (step_stop letters (at == 0) (drop at bytes) c.in-Err.scan is)
-        ∙ stopped_behind at letters (at == 0) (drop at bytes) c.in-Err.scan is)
+    ∙ ap (behind at) (step_stop letters (at == 0) (drop at bytes) c.in-Err.scan is)
+    ∙ stopped_behind at letters (at == 0) (drop at bytes) c.in-Err.scan is)
