@@ -4,6 +4,8 @@ pub mod Fronts
 pub mod Scanning
 pub mod Phases
 pub mod MessagePlaces
+pub mod Units
+pub mod UnitLaws
 pub mod FrontLaws
 pub mod Framing
 pub mod MessageLaws

@@ -74,7 +74,10 @@ stopped_behind size letters is_first bytes Bad e = refl
 stopped_behind size letters is_first bytes TooBig e = refl
 stopped_behind size letters is_first bytes (Unsupported code) e = refl
 
-behind_whole : (size : ℕ) (scan : Scan) (len : ℕ) → behind size scan ≡ Whole len → (k : ℕ) × (scan ≡ Whole k) × (size + k ≡ len)
+pub stopped_never : (letters : Letters) (is_first : Bool) (bytes : List ℕ) (scan : Scan) (len : ℕ) → front_of letters is_first bytes ≡ Err scan → scan ≢ Whole len
+stopped_never letters is_first bytes scan len e q = (not_front letters is_first bytes).never len (e ∙ ap Err q)
+
+pub behind_whole : (size : ℕ) (scan : Scan) (len : ℕ) → behind size scan ≡ Whole len → (k : ℕ) × (scan ≡ Whole k) × (size + k ≡ len)
 behind_whole size (Whole k) len e = let same : size + k ≡ len = cc e in (k, refl, same)
 behind_whole size More len e = absurd (cc e)
 behind_whole size Bad len e = absurd (cc e)

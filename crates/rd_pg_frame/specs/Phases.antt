@@ -6,27 +6,55 @@ use Rattle.rd_base.specs.declared.values.Note.{Note}
 use Rattle.rd_pg_frame.specs.declared.message.Message.{Message}
 use Rattle.rd_pg_frame.specs.Messages.{be_u32_at, message_at}
 
--- 1 after SSLRequest, 2 after GSSENCRequest, 3 after a startup
+abbrev pub phase_open : Phase
+phase_open = record { 0 = 0 }
+
+abbrev pub phase_password : Phase
+phase_password = record { 0 = 1 }
+
+abbrev pub phase_ready : Phase
+phase_ready = record { 0 = 2 }
+
+abbrev pub phase_over : Phase
+phase_over = record { 0 = 3 }
+
+abbrev pub note_ssl : Note
+note_ssl = record { 0 = 1 }
+
+abbrev pub note_gss : Note
+note_gss = record { 0 = 2 }
+
+abbrev pub note_startup : Note
+note_startup = record { 0 = 3 }
+
+abbrev pub note_password : Note
+note_password = record { 0 = 4 }
+
+abbrev pub note_query : Note
+note_query = record { 0 = 5 }
+
+abbrev pub note_extended : Note
+note_extended = record { 0 = 6 }
+
+abbrev pub note_farewell : Note
+note_farewell = record { 0 = 7 }
+
+-- by the code: SSLRequest, GSSENCRequest, else a startup
 abbrev pub packet_note : ℕ → Note
-packet_note code =
-    if code == 80877103 then record { 0 = 1 }
-    else if code == 80877104 then record { 0 = 2 }
-    else record { 0 = 3 }
+packet_note code = if code == 80877103 then note_ssl else if code == 80877104 then note_gss else note_startup
 
--- 4 after a password, 5 after a simple query, 6 after an extended one, 7 after Terminate
-abbrev pub password_note : ℕ → Note
-password_note letter = if letter == 88 then record { 0 = 7 } else record { 0 = 4 }
+-- `X`, else `p`
+abbrev pub secret_note : ℕ → Note
+secret_note letter = if letter == 88 then note_farewell else note_password
 
+-- `X`, `Q`, else an extended query
 abbrev pub ready_note : ℕ → Note
-ready_note letter =
-    if letter == 88 then record { 0 = 7 }
-    else if letter == 81 then record { 0 = 5 }
-    else record { 0 = 6 }
+ready_note letter = if letter == 88 then note_farewell else if letter == 81 then note_query else note_extended
 
 abbrev pub note_of : Phase → List ℕ → Note
 note_of phase unit =
     if phase.0 == 0 then packet_note (be_u32_at unit 4)
-    else if phase.0 == 1 then password_note (slice_index unit 0)
+    else if phase.0 == 1 then secret_note (slice_index unit 0)
     else ready_note (slice_index unit 0)
 
 abbrev pub letter_behind : Option Message → ℕ → (Message → ℕ) → ℕ
@@ -42,16 +70,13 @@ last_letter_up_to (suc count) letter bytes =
 abbrev pub last_letter : List ℕ → ℕ
 last_letter bytes = last_letter_up_to (length bytes) 0 bytes
 
--- Ready after ReadyForQuery, Password after an Authentication message that asks for it, else Over
+-- after ReadyForQuery, an Authentication message that asks for the password, ErrorResponse
 abbrev pub login_phase : ℕ → Phase
-login_phase letter =
-    if letter == 90 then record { 0 = 2 }
-    else if letter == 82 then record { 0 = 1 }
-    else record { 0 = 3 }
+login_phase letter = if letter == 90 then phase_ready else if letter == 82 then phase_password else phase_over
 
 abbrev pub phase_after : Note → List ℕ → Phase
 phase_after note reply =
-    if note.0 == 1 || note.0 == 2 then record { 0 = 0 }
+    if note.0 == 1 || note.0 == 2 then phase_open
     else if note.0 == 3 || note.0 == 4 then login_phase (last_letter reply)
-    else if note.0 == 5 || note.0 == 6 then record { 0 = 2 }
-    else record { 0 = 3 }
+    else if note.0 == 5 || note.0 == 6 then phase_ready
+    else phase_over
