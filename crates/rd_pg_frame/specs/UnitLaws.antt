@@ -221,3 +221,98 @@ messages_shown (suc n) letters is_first bytes e = go (λ rest. messages_shown n 
         → go_on r (λ size. scan_up_to n letters false (drop size bytes)) ≡ Whole (length bytes) → IsUnitOf letters is_first bytes
     go ih (Ok front) is q = by_last ih front is front.is_last refl q
     go ih (Err scan) is q = absurd (stopped_never letters is_first bytes scan (length bytes) is q)
+
+-- no letter and no code stands in two lists
+pub record IsTable (letters : Letters) : Type 0 where
+  pub inner : (is_first : Bool) (letter : ℕ) → is_among letters.inner letter ≡ true → role_of letters is_first letter ≡ Ok Inner
+  pub last : (is_first : Bool) (letter : ℕ) → is_among letters.last letter ≡ true → role_of letters is_first letter ≡ Ok Last
+  pub authentication : (is_first : Bool) (letter : ℕ) → is_among letters.authentication letter ≡ true → role_of letters is_first letter ≡ Ok Authentication
+  pub status : (is_first : Bool) (letter : ℕ) → is_among letters.status letter ≡ true → role_of letters is_first letter ≡ Ok Status
+  pub last_codes : (code : ℕ) → is_among letters.last_codes code ≡ true → code_ends letters code ≡ Ok true
+
+code_made : (letters : Letters) → IsTable letters → (is_last : Bool) (code : ℕ) → is_among (codes_for letters is_last) code ≡ true → code_ends letters code ≡ Ok is_last
+code_made letters table true code among = table.last_codes code among
+code_made letters table false code among = ap (λ t. cond t (Ok false) (cond (is_among letters.last_codes code) (Ok true) (Err (Unsupported code)))) among
+
+authentication_made : (letters : Letters) → IsTable letters → (is_first is_last : Bool) (bytes : List ℕ) → IsAuthentication letters.authentication (codes_for letters is_last) bytes → IsWhole letters is_first is_last bytes
+authentication_made letters table is_first is_last bytes a =
+    let content = a.named ++ a.rest in
+    let size = length-append a.named a.rest in
+    let four = a.four in
+    record {
+      letter = a.letter;
+      content = content;
+      role = Authentication;
+      message = a.message;
+      stands = table.authentication is_first a.letter a.among;
+      judged = ap (λ t. cond t (Err Bad) (cond (ltb (length content) 4) (Err More) (code_ends letters (be_u32 (take 4 content))))) (le-ltb (4 + length content) 8 (omega arith))
+          ∙ ap (λ t. cond t (Err More) (code_ends letters (be_u32 (take 4 content)))) (le-ltb (length content) 4 (omega arith))
+          ∙ ap (λ b. code_ends letters (be_u32 b)) (take_at a.named a.rest 4 four)
+          ∙ code_made letters table is_last (be_u32 a.named) a.code_among;
+    }
+
+inner_made : (letters : Letters) → IsTable letters → (is_first : Bool) (bytes : List ℕ) → IsInner letters bytes → IsWhole letters is_first false bytes
+inner_made letters table is_first bytes (inl one) =
+    record { letter = one.letter; content = one.content; role = Inner; message = one.message; stands = table.inner is_first one.letter one.among; judged = refl }
+inner_made letters table is_first bytes (inr a) = authentication_made letters table is_first false bytes a
+
+last_made : (letters : Letters) → IsTable letters → (is_first : Bool) (bytes : List ℕ) → IsLast letters bytes → IsWhole letters is_first true bytes
+last_made letters table is_first bytes (inl one) =
+    record { letter = one.letter; content = one.content; role = Last; message = one.message; stands = table.last is_first one.letter one.among; judged = refl }
+last_made letters table is_first bytes (inr (inl a)) = authentication_made letters table is_first true bytes a
+last_made letters table is_first bytes (inr (inr s)) =
+    record {
+      letter = s.letter;
+      content = s.status ∷ [];
+      role = Status;
+      message = s.message;
+      stands = table.status is_first s.letter s.among;
+      judged = ap (λ t. cond t (Ok true) (Err Bad)) s.status_among;
+    }
+
+alone_made : (letters : Letters) (bytes : List ℕ) → IsOneOf letters.alone bytes → IsWhole letters true true bytes
+alone_made letters bytes one =
+    record {
+      letter = one.letter;
+      content = one.content;
+      role = Last;
+      message = one.message;
+      stands = ap (λ t. cond t (Ok Last) (role_of (record letters { alone = [] }) true one.letter)) one.among;
+      judged = refl;
+    }
+
+end_made : (n : ℕ) (letters : Letters) (is_first : Bool) (bytes : List ℕ) → length bytes ≤ n → IsWhole letters is_first true bytes → scan_up_to n letters is_first bytes ≡ Whole (length bytes)
+end_made zero letters is_first bytes room w = let fits = front_fits letters is_first bytes _ (whole_made letters is_first true bytes w) in absurd (omega (arith, fits.0, fits.1))
+end_made (suc n) letters is_first bytes room w = ap (λ r. go_on r (λ size. scan_up_to n letters false (drop size bytes))) (whole_made letters is_first true bytes w)
+
+step_made : (n : ℕ) (letters : Letters) (is_first : Bool) (front rest : List ℕ) → length (front ++ rest) ≤ n → IsWhole letters is_first false front → ((m : ℕ) → length rest ≤ m → scan_up_to m letters false rest ≡ Whole (length rest)) → scan_up_to n letters is_first (front ++ rest) ≡ Whole (length (front ++ rest))
+step_made n letters is_first front rest room w later = go n room
+  where
+    made : front_of letters is_first front ≡ Ok (record { size = length front; is_last = false })
+    made = whole_made letters is_first false front w
+
+    stays : front_of letters is_first (front ++ rest) ≡ Ok (record { size = length front; is_last = false })
+    stays = subst (λ r. Keeps r (front_of letters is_first (front ++ rest))) made (front_keeps letters is_first front rest)
+
+    go : (n : ℕ) → length (front ++ rest) ≤ n → scan_up_to n letters is_first (front ++ rest) ≡ Whole (length (front ++ rest))
+    go zero room = let fits = front_fits letters is_first (front ++ rest) _ stays in absurd (omega (arith, fits.0, fits.1))
+    go (suc n) room =
+        let fits = front_fits letters is_first front _ made in
+        let size = length-append front rest in
+        ap (λ r. go_on r (λ size. scan_up_to n letters false (drop size (front ++ rest)))) stays
+        ∙ ap (λ b. behind (length front) (scan_up_to n letters false b)) (drop_at front rest (length front) refl)
+        ∙ ap (behind (length front)) (later n (omega (arith, fits.0, size)))
+        ∙ ap Whole (sym size)
+
+sequence_made : (letters : Letters) → IsTable letters → (bytes : List ℕ) → IsSequence (IsInner letters) (IsLast letters) bytes → (is_first : Bool) (n : ℕ) → length bytes ≤ n → scan_up_to n letters is_first bytes ≡ Whole (length bytes)
+sequence_made letters table bytes (Ends b last) = λ is_first n room. end_made n letters is_first b room (last_made letters table is_first b last)
+sequence_made letters table bytes (Goes front rest inner sequence) = λ is_first n room.
+    step_made n letters is_first front rest room (inner_made letters table is_first front inner) (λ m more. sequence_made letters table rest sequence false m more)
+
+-- a unit of messages scans as whole, and what scans as whole is one
+pub unit_shown : (letters : Letters) (bytes : List ℕ) → scan_messages letters bytes ≡ Whole (length bytes) → IsUnitOf letters true bytes
+unit_shown letters bytes e = messages_shown (length bytes) letters true bytes e
+
+pub unit_made : (letters : Letters) → IsTable letters → (bytes : List ℕ) → IsUnitOf letters true bytes → scan_messages letters bytes ≡ Whole (length bytes)
+unit_made letters table bytes (inl alone) = end_made (length bytes) letters true bytes (omega arith) (alone_made letters bytes alone.1)
+unit_made letters table bytes (inr sequence) = sequence_made letters table bytes sequence true (length bytes) (omega arith)
