@@ -6,6 +6,7 @@ pub mod Phases
 pub mod MessagePlaces
 pub mod Units
 pub mod UnitLaws
+pub mod TableLaws
 pub mod FrontLaws
 pub mod Framing
 pub mod MessageLaws
