@@ -7,6 +7,7 @@ pub mod MessagePlaces
 pub mod Units
 pub mod UnitLaws
 pub mod TableLaws
+pub mod RequestLaws
 pub mod FrontLaws
 pub mod Framing
 pub mod MessageLaws

@@ -75,7 +75,7 @@ pub record IsWhole (lengths : ℕ → Option (ℕ × ℕ)) (bytes : List ℕ) (l
   pub fits : (leb least len && leb len most) ≡ true
   pub there : len ≤ length bytes
 
-whole_made : (lengths : ℕ → Option (ℕ × ℕ)) (bytes : List ℕ) (len : ℕ) → IsWhole lengths bytes len → scan_packet lengths bytes ≡ Whole len
+pub whole_made : (lengths : ℕ → Option (ℕ × ℕ)) (bytes : List ℕ) (len : ℕ) → IsWhole lengths bytes len → scan_packet lengths bytes ≡ Whole len
 whole_made lengths bytes len w =
     let code = be_u32 (take 4 (drop 4 bytes)) in
     let at_least = leb-true 8 len (and_parts (leb 8 len) (leb len 10000) w.limits).0 in
