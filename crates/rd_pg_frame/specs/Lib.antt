@@ -8,6 +8,7 @@ pub mod Units
 pub mod UnitLaws
 pub mod TableLaws
 pub mod RequestLaws
+pub mod ReplyLaws
 pub mod FrontLaws
 pub mod Framing
 pub mod MessageLaws

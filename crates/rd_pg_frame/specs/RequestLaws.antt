@@ -11,7 +11,7 @@ use Rattle.rd_pg_frame.specs.Letters.{Letters, password, ready}
 use Rattle.rd_pg_frame.specs.Messages.{be_u32, be_u32_at, is_among, IsMessage}
 use Rattle.rd_pg_frame.specs.Scanning.{scan_packet, packet_lengths, scan_messages, scan_nothing, scan_request}
 use Rattle.rd_pg_frame.specs.Phases.{phase_open, phase_password, phase_ready, note_ssl, note_gss, note_startup, note_password, note_query, note_extended, note_farewell, packet_note, secret_note, ready_note, note_of}
-use Rattle.rd_pg_frame.specs.Units.{IsPacket, IsOneOf, IsAuthentication, HasStatus, IsSequence, IsRequest, IsAsked, Finds}
+use Rattle.rd_pg_frame.specs.Units.{IsPacket, IsOneOf, IsAuthentication, HasStatus, IsSequence, IsRequest, IsRequestIn, Finds}
 use Rattle.rd_pg_frame.specs.Units.IsSequence.{Ends, Goes}
 use Rattle.rd_pg_frame.specs.Units.IsRequest.{SslRequest, GssRequest, Startup, Secret, Query, Extended, Unasked, Farewell}
 use Rattle.rd_pg_frame.specs.Framing.{IsFraming}
@@ -69,10 +69,10 @@ join_later x xs bytes one = record { letter = one.letter; among = go (eqb x one.
     go false = one.among
 
 -- a password message or the farewell
-password_shown : (bytes : List ℕ) → scan_messages password bytes ≡ Whole (length bytes) → IsAsked phase_password bytes
+password_shown : (bytes : List ℕ) → scan_messages password bytes ≡ Whole (length bytes) → IsRequestIn phase_password bytes
 password_shown bytes e = go (unit_shown password bytes e)
   where
-    alone : IsOneOf (codes "p") bytes ⊎ IsOneOf (codes "X") bytes → IsAsked phase_password bytes
+    alone : IsOneOf (codes "p") bytes ⊎ IsOneOf (codes "X") bytes → IsRequestIn phase_password bytes
     alone (inl secret) = (note_password, Secret bytes secret)
     alone (inr farewell) = (note_farewell, Unasked bytes farewell)
 
@@ -82,7 +82,7 @@ password_shown bytes e = go (unit_shown password bytes e)
     never b (Ends c (inr (inr s))) = none_has c s
     never b (Goes front rest inner sequence) = never rest sequence
 
-    go : ((true ≡ true) × IsOneOf (codes "pX") bytes) ⊎ IsSequence (IsInner password) (IsLast password) bytes → IsAsked phase_password bytes
+    go : ((true ≡ true) × IsOneOf (codes "pX") bytes) ⊎ IsSequence (IsInner password) (IsLast password) bytes → IsRequestIn phase_password bytes
     go (inl one) = alone (split_one 112 (codes "X") bytes one.1)
     go (inr sequence) = absurd (never bytes sequence)
 
@@ -95,14 +95,14 @@ ready_last bytes (inl one) = one
 ready_last bytes (inr (inl a)) = absurd (none_asks [] bytes a)
 ready_last bytes (inr (inr s)) = absurd (none_has bytes s)
 
-ready_shown : (bytes : List ℕ) → scan_messages ready bytes ≡ Whole (length bytes) → IsAsked phase_ready bytes
+ready_shown : (bytes : List ℕ) → scan_messages ready bytes ≡ Whole (length bytes) → IsRequestIn phase_ready bytes
 ready_shown bytes e = go (unit_shown ready bytes e)
   where
-    alone : IsOneOf (codes "Q") bytes ⊎ IsOneOf (codes "X") bytes → IsAsked phase_ready bytes
+    alone : IsOneOf (codes "Q") bytes ⊎ IsOneOf (codes "X") bytes → IsRequestIn phase_ready bytes
     alone (inl query) = (note_query, Query bytes query)
     alone (inr farewell) = (note_farewell, Farewell bytes farewell)
 
-    go : ((true ≡ true) × IsOneOf (codes "QX") bytes) ⊎ IsSequence (IsInner ready) (IsLast ready) bytes → IsAsked phase_ready bytes
+    go : ((true ≡ true) × IsOneOf (codes "QX") bytes) ⊎ IsSequence (IsInner ready) (IsLast ready) bytes → IsRequestIn phase_ready bytes
     go (inl one) = alone (split_one 81 (codes "X") bytes one.1)
     go (inr sequence) = (note_extended, Extended bytes (sequence_map (IsInner ready) (IsOneOf (codes "PBDEC")) (IsLast ready) (IsOneOf (codes "S")) ready_inner ready_last bytes sequence))
 
@@ -136,7 +136,7 @@ abbrev most_of : Option (ℕ × ℕ) → ℕ
 most_of None = 0
 most_of (Some range) = range.1
 
-open_shown : (bytes : List ℕ) → scan_packet packet_lengths bytes ≡ Whole (length bytes) → IsAsked phase_open bytes
+open_shown : (bytes : List ℕ) → scan_packet packet_lengths bytes ≡ Whole (length bytes) → IsRequestIn phase_open bytes
 open_shown bytes e = by_code (eqb code 80877103) refl (eqb code 80877104) refl (eqb code 196608) refl
   where
     w : IsWhole packet_lengths bytes (length bytes)
@@ -169,24 +169,28 @@ open_shown bytes e = by_code (eqb code 80877103) refl (eqb code 80877104) refl (
         let fits = ranged 8 8 same in
         subst (λ r. IsPacket c r bytes) (sym (empty_rest rest (omega (arith, all, fits.1)))) (subst (λ n. IsPacket n rest bytes) is packet)
 
-    by_code : (s : Bool) → eqb code 80877103 ≡ s → (g : Bool) → eqb code 80877104 ≡ g → (v : Bool) → eqb code 196608 ≡ v → IsAsked phase_open bytes
-    by_code true is g gss v version =
-        (note_ssl, SslRequest bytes (short 80877103 (eqb-true code 80877103 is)
-            (sym (ap (λ t. cond (t || eqb code 80877104) (range_from 8 8) (cond (eqb code 196608) (range_from 9 10000) None)) is) ∙ w.stands)))
-    by_code false is true gss v version =
-        (note_gss, GssRequest bytes (short 80877104 (eqb-true code 80877104 gss)
-            (sym (ap (λ t. cond (t || eqb code 80877104) (range_from 8 8) (cond (eqb code 196608) (range_from 9 10000) None)) is
-                ∙ ap (λ t. cond t (range_from 8 8) (cond (eqb code 196608) (range_from 9 10000) None)) gss) ∙ w.stands)))
+    by_code : (s : Bool) → eqb code 80877103 ≡ s → (g : Bool) → eqb code 80877104 ≡ g → (v : Bool) → eqb code 196608 ≡ v → IsRequestIn phase_open bytes
+    by_code true is g gss v version = (
+      note_ssl,
+      SslRequest bytes (short 80877103 (eqb-true code 80877103 is)
+          (sym (ap (λ t. cond (t || eqb code 80877104) (range_from 8 8) (cond (eqb code 196608) (range_from 9 10000) None)) is) ∙ w.stands)),
+    )
+    by_code false is true gss v version = (
+      note_gss,
+      GssRequest bytes (short 80877104 (eqb-true code 80877104 gss)
+          (sym (ap (λ t. cond (t || eqb code 80877104) (range_from 8 8) (cond (eqb code 196608) (range_from 9 10000) None)) is
+          ∙ ap (λ t. cond t (range_from 8 8) (cond (eqb code 196608) (range_from 9 10000) None)) gss) ∙ w.stands)),
+    )
     by_code false is false gss true version =
         let fits = ranged 9 10000
-            (sym (ap (λ t. cond (t || eqb code 80877104) (range_from 8 8) (cond (eqb code 196608) (range_from 9 10000) None)) is
-                ∙ ap (λ t. cond t (range_from 8 8) (cond (eqb code 196608) (range_from 9 10000) None)) gss
-                ∙ ap (λ t. cond t (range_from 9 10000) None) version) ∙ w.stands) in
+        (sym (ap (λ t. cond (t || eqb code 80877104) (range_from 8 8) (cond (eqb code 196608) (range_from 9 10000) None)) is
+        ∙ ap (λ t. cond t (range_from 8 8) (cond (eqb code 196608) (range_from 9 10000) None)) gss
+        ∙ ap (λ t. cond t (range_from 9 10000) None) version) ∙ w.stands) in
         (note_startup, Startup rest bytes (omega (arith, all, fits.0)) (omega (arith, all, fits.1)) (subst (λ n. IsPacket n rest bytes) (eqb-true code 196608 version) packet))
     by_code false is false gss false version =
         absurd (cc (sym (ap (λ t. cond (t || eqb code 80877104) (range_from 8 8) (cond (eqb code 196608) (range_from 9 10000) None)) is
-            ∙ ap (λ t. cond t (range_from 8 8) (cond (eqb code 196608) (range_from 9 10000) None)) gss
-            ∙ ap (λ t. cond t (range_from 9 10000) None) version) ∙ w.stands))
+        ∙ ap (λ t. cond t (range_from 8 8) (cond (eqb code 196608) (range_from 9 10000) None)) gss
+        ∙ ap (λ t. cond t (range_from 9 10000) None) version) ∙ w.stands))
 
 packet_made : (code : ℕ) (rest bytes : List ℕ) (least most : ℕ) → packet_lengths code ≡ range_from least most → least ≤ 8 + length rest → 8 + length rest ≤ most → 8 + length rest ≤ 10000 → IsPacket code rest bytes → scan_packet packet_lengths bytes ≡ Whole (length bytes)
 packet_made code rest bytes least most stands low high limit p =
@@ -218,24 +222,24 @@ request_made phase note bytes (Query b one) = unit_made ready ready_table b (inl
 request_made phase note bytes (Farewell b one) = unit_made ready ready_table b (inl (refl, join_later 81 (codes "X") b one))
 request_made phase note bytes (Extended b sequence) = unit_made ready ready_table b (inr (ready_made b sequence))
 
-request_shown : (phase : Phase) (bytes : List ℕ) → scan_request phase bytes ≡ Whole (length bytes) → IsAsked phase bytes
+request_shown : (phase : Phase) (bytes : List ℕ) → scan_request phase bytes ≡ Whole (length bytes) → IsRequestIn phase bytes
 request_shown phase bytes e = by_open (eqb phase.0 0) refl e
   where
-    by_ready : (t : Bool) → eqb phase.0 2 ≡ t → cond t (scan_messages ready bytes) (scan_nothing bytes) ≡ Whole (length bytes) → IsAsked phase bytes
-    by_ready true is q = subst (λ n. IsAsked (record { 0 = n }) bytes) (sym (eqb-true phase.0 2 is)) (ready_shown bytes q)
+    by_ready : (t : Bool) → eqb phase.0 2 ≡ t → cond t (scan_messages ready bytes) (scan_nothing bytes) ≡ Whole (length bytes) → IsRequestIn phase bytes
+    by_ready true is q = subst (λ n. IsRequestIn (record { 0 = n }) bytes) (sym (eqb-true phase.0 2 is)) (ready_shown bytes q)
     by_ready false is q = absurd (nothing_whole bytes (length bytes) q)
 
-    by_password : (t : Bool) → eqb phase.0 1 ≡ t → cond t (scan_messages password bytes) (cond (eqb phase.0 2) (scan_messages ready bytes) (scan_nothing bytes)) ≡ Whole (length bytes) → IsAsked phase bytes
-    by_password true is q = subst (λ n. IsAsked (record { 0 = n }) bytes) (sym (eqb-true phase.0 1 is)) (password_shown bytes q)
+    by_password : (t : Bool) → eqb phase.0 1 ≡ t → cond t (scan_messages password bytes) (cond (eqb phase.0 2) (scan_messages ready bytes) (scan_nothing bytes)) ≡ Whole (length bytes) → IsRequestIn phase bytes
+    by_password true is q = subst (λ n. IsRequestIn (record { 0 = n }) bytes) (sym (eqb-true phase.0 1 is)) (password_shown bytes q)
     by_password false is q = by_ready (eqb phase.0 2) refl q
 
-    by_open : (t : Bool) → eqb phase.0 0 ≡ t → cond t (scan_packet packet_lengths bytes) (cond (eqb phase.0 1) (scan_messages password bytes) (cond (eqb phase.0 2) (scan_messages ready bytes) (scan_nothing bytes))) ≡ Whole (length bytes) → IsAsked phase bytes
-    by_open true is q = subst (λ n. IsAsked (record { 0 = n }) bytes) (sym (eqb-true phase.0 0 is)) (open_shown bytes q)
+    by_open : (t : Bool) → eqb phase.0 0 ≡ t → cond t (scan_packet packet_lengths bytes) (cond (eqb phase.0 1) (scan_messages password bytes) (cond (eqb phase.0 2) (scan_messages ready bytes) (scan_nothing bytes))) ≡ Whole (length bytes) → IsRequestIn phase bytes
+    by_open true is q = subst (λ n. IsRequestIn (record { 0 = n }) bytes) (sym (eqb-true phase.0 0 is)) (open_shown bytes q)
     by_open false is q = by_password (eqb phase.0 1) refl q
 
 -- a request stands exactly where its scan is whole
-pub request_finds : (phase : Phase) → Finds (IsAsked phase) (scan_request phase)
-request_finds phase = finds (IsAsked phase) (scan_request phase) (request_framing phase) (request_shown phase) (λ unit is. request_made phase is.0 unit is.1)
+pub request_finds : (phase : Phase) → Finds (IsRequestIn phase) (scan_request phase)
+request_finds phase = finds (IsRequestIn phase) (scan_request phase) (request_framing phase) (request_shown phase) (λ unit is. request_made phase is.0 unit is.1)
 
 -- the first byte is the letter of the first message
 first_letter : (letter : ℕ) (content bytes more : List ℕ) → IsMessage letter content bytes → letter ≡ slice_index (bytes ++ more) 0
@@ -270,7 +274,7 @@ request_noted phase note bytes (Farewell b one) = only_of (codes "X") b (λ l. n
 request_noted phase note bytes (Extended b sequence) = sequence_first b sequence
 
 -- a whole request is one with its note
-pub request_is : (phase : Phase) (bytes : List ℕ) → scan_request phase bytes ≡ Whole (length bytes) → IsRequest phase (note_of phase bytes) bytes
-request_is phase bytes e =
+pub request_is : (phase : Phase) (note : Note) (bytes : List ℕ) → scan_request phase bytes ≡ Whole (length bytes) → note ≡ note_of phase bytes → IsRequest phase note bytes
+request_is phase note bytes e same =
     let is = request_shown phase bytes e in
-    subst (λ n. IsRequest phase n bytes) (request_noted phase is.0 bytes is.1) is.1
+    subst (λ n. IsRequest phase n bytes) (request_noted phase is.0 bytes is.1 ∙ sym same) is.1

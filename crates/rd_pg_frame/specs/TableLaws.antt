@@ -74,9 +74,28 @@ secret_table = login_table [] (λ code among. absurd (cc among))
 pub query_table : IsTable query_reply
 query_table =
     record {
-      inner = all_roles query_reply Inner (codes "TDCENIS123nst")
-          ((refl, refl), ((refl, refl), ((refl, refl), ((refl, refl), ((refl, refl), ((refl, refl), ((refl, refl),
-          ((refl, refl), ((refl, refl), ((refl, refl), ((refl, refl), ((refl, refl), ((refl, refl), tt)))))))))))));
+      inner = all_roles query_reply Inner (codes "TDCENIS123nst") (
+        (refl, refl),
+        (
+          (refl, refl),
+          (
+            (refl, refl),
+            (
+              (refl, refl),
+              (
+                (refl, refl),
+                (
+                  (refl, refl),
+                  (
+                    (refl, refl),
+                    ((refl, refl), ((refl, refl), ((refl, refl), ((refl, refl), ((refl, refl), ((refl, refl), tt)))))),
+                  ),
+                ),
+              ),
+            ),
+          ),
+        ),
+      );
       last = all_roles query_reply Last [] tt;
       authentication = all_roles query_reply Authentication [] tt;
       status = all_roles query_reply Status (codes "Z") ((refl, refl), tt);

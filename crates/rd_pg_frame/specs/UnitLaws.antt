@@ -214,7 +214,7 @@ messages_shown (suc n) letters is_first bytes e = go (λ rest. messages_shown n 
         let shown = whole_shows letters is_first (take front.size bytes) front (front_itself letters is_first bytes front is) size in
         let step = inner_of letters is_first (take front.size bytes) (subst (λ t. IsWhole letters is_first t (take front.size bytes)) inner shown) in
         inr (subst (IsSequence (IsInner letters) (IsLast letters)) (take-append-drop front.size bytes)
-            (by_rest (take front.size bytes) (drop front.size bytes) step (ih (drop front.size bytes) (more.1 ∙ ap Whole left))))
+        (by_rest (take front.size bytes) (drop front.size bytes) step (ih (drop front.size bytes) (more.1 ∙ ap Whole left))))
 
     go : ((rest : List ℕ) → scan_up_to n letters false rest ≡ Whole (length rest) → IsUnitOf letters false rest)
         → (r : Result Front Scan) → front_of letters is_first bytes ≡ r

@@ -106,8 +106,8 @@ pub record Finds (IsUnit : List ℕ → Type 0) (scan : List ℕ → Scan) : Typ
   pub whole : (bytes : List ℕ) (len : ℕ) → scan bytes ≡ Whole len → IsUnit (take len bytes)
   pub found : (unit more : List ℕ) → IsUnit unit → scan (unit ++ more) ≡ Whole (length unit)
 
-abbrev pub IsAsked : Phase → List ℕ → Type 0
-IsAsked phase unit = (note : Note) × IsRequest phase note unit
+abbrev pub IsRequestIn : Phase → List ℕ → Type 0
+IsRequestIn phase unit = (note : Note) × IsRequest phase note unit
 
-abbrev pub IsReplied : Side → Note → List ℕ → Type 0
-IsReplied side note unit = (phase : Phase) × IsReply side note phase unit
+abbrev pub IsReplyTo : Side → Note → List ℕ → Type 0
+IsReplyTo side note unit = (phase : Phase) × IsReply side note phase unit

@@ -1,6 +1,7 @@
 ghost use Rattle.std.specs.Prelude.{◌≡◌, ◌≢◌, ℕ};
 ghost use Rattle.rd_base.specs.declared.values.Scan.TheVariants.{Whole};
 ghost use Rattle.rd_pg_frame.specs.Letters.{letters_of};
+ghost use Rattle.rd_pg_frame.specs.Units.{Finds, IsRequestIn, IsReplyTo};
 ghost use Rattle.rd_pg_frame.specs.Framing.{IsFraming};
 ghost use Rattle.rd_pg_frame.specs.Scanning.{scan_request, scan_reply, scan_messages, scan_packet, packet_lengths, scan_answer, scan_nothing};
 
@@ -19,6 +20,7 @@ const PROTOCOL_3_0: u32 = 196_608;
 /// What the bytes of a client come to in this phase: 0 is Open, 1 Password, 2 Ready, 3 Over.
 pub fn scan_request(phase: Phase, bytes: &[u8]) -> Scan
     ensures scan { result ≡ scan_request phase bytes.now }
+    ensures units { Finds (IsRequestIn phase) (scan_request phase) }
     ensures framing { IsFraming (scan_request phase) }
     ensures over { phase.0 ≡ 3 → (len : ℕ) → result ≢ Whole len }
 {
@@ -33,6 +35,7 @@ pub fn scan_request(phase: Phase, bytes: &[u8]) -> Scan
 /// What the bytes of a backend come to after a request with this note.
 pub fn scan_reply(side: Side, note: Note, bytes: &[u8]) -> Scan
     ensures scan { result ≡ scan_reply side note bytes.now }
+    ensures units { Finds (IsReplyTo side note) (scan_reply side note) }
     ensures framing { IsFraming (scan_reply side note) }
 {
     match note.0 {
