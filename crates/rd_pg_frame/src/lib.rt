@@ -10,3 +10,6 @@ mod scan;
 pub use message::{Message, be_u16_at, be_u32_at, message_at};
 pub use phase::{note_of, phase_after};
 pub use scan::{scan_reply, scan_request};
+
+#[cfg(test)]
+mod tests;
