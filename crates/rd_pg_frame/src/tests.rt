@@ -221,3 +221,68 @@ fn replies(rt: HostRuntime) {
         tells(&rt, At::Outgoing(note), bytes, told, scan);
     }
 }
+
+#[test]
+fn notes_of_requests(rt: HostRuntime) {
+    for (phase, unit, note) in [
+        (0, b"\0\0\0\x08\x04\xd2\x16\x2f".as_slice(), 1),
+        (0, b"\0\0\0\x08\x04\xd2\x16\x30", 2),
+        (0, b"\0\0\0\x09\0\x03\0\0\0", 3),
+        (1, b"p\0\0\0\x05\0", 4),
+        (1, b"X\0\0\0\x04", 7),
+        (2, b"Q\0\0\0\x05\0", 5),
+        (2, b"S\0\0\0\x04", 6),
+        (2, b"P\0\0\0\x08\0\0\0\0S\0\0\0\x04", 6),
+        (2, b"X\0\0\0\x04", 7),
+    ] {
+        let scan = scan_request(Phase(phase), unit);
+        assert_eq!(rt; scan, Scan::Whole(unit.len()));
+        assert_eq!(rt;
+            note_of(Phase(phase), unit),
+            Note(note),
+            "{unit:?} in {phase}"
+        );
+    }
+}
+
+#[test]
+fn phases_after_replies(rt: HostRuntime) {
+    for (note, reply, phase) in [
+        (1, b"N".as_slice(), 0),
+        (2, b"N", 0),
+        (3, b"R\0\0\0\x08\0\0\0\0Z\0\0\0\x05I", 2),
+        (3, b"R\0\0\0\x08\0\0\0\x03", 1),
+        (3, b"N\0\0\0\x05\0E\0\0\0\x05\0", 3),
+        (3, b"E\0\0\0\x0aZ\0\0\0\x05I", 3),
+        (4, b"R\0\0\0\x08\0\0\0\0Z\0\0\0\x05I", 2),
+        (4, b"E\0\0\0\x05\0", 3),
+        (5, b"E\0\0\0\x05\0Z\0\0\0\x05I", 2),
+        (6, b"Z\0\0\0\x05E", 2),
+        (7, b"", 3),
+    ] {
+        assert_eq!(rt;
+            phase_after(Note(note), reply),
+            Phase(phase),
+            "{reply:?} after {note}"
+        );
+    }
+}
+
+#[test]
+fn messages_by_place(rt: HostRuntime) {
+    let bytes = b"?C\0\0\0\x06abZ\0\0\0\x05I";
+    for (at, message) in [
+        (1, Some((b'C', 6, 8))),
+        (8, Some((b'Z', 13, 14))),
+        (0, None),
+        (13, None),
+        (14, None),
+        (usize::MAX, None),
+    ] {
+        let wanted = message.map(|(letter, from, to)| Message { letter, from, to });
+        assert_eq!(rt; message_at(bytes, at), wanted, "at {at}");
+    }
+    assert_eq!(rt; message_at(&bytes[..7], 1), None);
+    assert_eq!(rt; be_u32_at(bytes, 2), 6);
+    assert_eq!(rt; be_u16_at(bytes, 5), 0x661);
+}
