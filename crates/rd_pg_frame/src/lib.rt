@@ -12,4 +12,6 @@ pub use phase::{note_of, phase_after};
 pub use scan::{scan_reply, scan_request};
 
 #[cfg(test)]
+mod recorded;
+#[cfg(test)]
 mod tests;

@@ -1,5 +1,7 @@
 use super::*;
+use crate::recorded::RECORDED;
 use rd_base::{Note, Phase, Scan, Side};
+use std::alloc::{AllocError, Global};
 use std::process::Abort;
 use std::test::Fail;
 
@@ -285,4 +287,62 @@ fn messages_by_place(rt: HostRuntime) {
     assert_eq!(rt; message_at(&bytes[..7], 1), None);
     assert_eq!(rt; be_u32_at(bytes, 2), 6);
     assert_eq!(rt; be_u16_at(bytes, 5), 0x661);
+}
+
+/// Cuts what one connection carried, and gives the notes of its requests.
+fn cut_connection(rt: &impl Abort, alloc: Global, connection: u8) -> Result<Vec<u8>, AllocError> {
+    let mut notes = Vec::new(alloc);
+    let mut reply = Vec::new(alloc);
+    let mut phase = Phase(0);
+    let mut note = Note(0);
+    for (number, writer, bytes) in RECORDED {
+        if number != connection {
+            continue;
+        }
+        if writer == b'>' {
+            assert!(rt; reply.is_empty(), "a request before the reply's end");
+            tells(
+                rt,
+                At::Phase(phase.0),
+                bytes,
+                bytes.len(),
+                Scan::Whole(bytes.len()),
+            );
+            let scan = scan_request(phase, bytes);
+            assert_eq!(rt; scan, Scan::Whole(bytes.len()));
+            note = note_of(phase, bytes);
+            notes.push(note.0)?;
+        } else {
+            reply.extend_from_slice(bytes)?;
+            if scan_reply(Side::Incoming, note, &reply) == Scan::More {
+                continue;
+            }
+            tells(
+                rt,
+                At::Incoming(note.0),
+                &reply,
+                reply.len(),
+                Scan::Whole(reply.len()),
+            );
+            phase = phase_after(note, &reply);
+            reply.clear();
+        }
+    }
+    assert!(rt; reply.is_empty(), "a reply without its end");
+    assert_eq!(rt; phase_after(note, &[]), Phase(3));
+    Ok(notes)
+}
+
+/// Each request is what one read of the client brought; a reply is what came up to the next request.
+#[test]
+fn recorded_conversations(rt: HostRuntime) -> Result<(), Fail> {
+    for (connection, wanted) in [
+        (0, b"\x01\x03\x05\x05\x05\x05\x07".as_slice()),
+        (1, b"\x01\x03\x07"),
+        (2, b"\x01\x03\x06\x06\x06\x07"),
+    ] {
+        let notes = cut_connection(&rt, rt.alloc(), connection)?;
+        assert_eq!(rt; notes.as_slice(), wanted, "connection {connection}");
+    }
+    Ok(())
 }
