@@ -1,7 +1,7 @@
 -- The last letter of the messages that stand one behind another.
-use Rattle.std.proofs.Common.{◌≡◌, ℕ, zero, suc, ◌+◌, ◌-◌, ◌≤◌, List, length, drop, drop-drop, Option, Some, None, refl, ap, ◌∙◌, arith}
+use Rattle.std.proofs.Common.{◌≡◌, ℕ, zero, suc, ◌+◌, ◌-◌, ◌≤◌, List, length, drop, drop-drop, Some, None, refl, ap, ◌∙◌, arith}
 use Rattle.rd_pg_frame.specs.declared.message.Message.{Message}
-use Rattle.rd_pg_frame.specs.Messages.{message_at, IsMessageAt}
+use Rattle.rd_pg_frame.specs.Messages.{message_at}
 use Rattle.rd_pg_frame.specs.Phases.{letter_behind, last_letter_up_to}
 use Rattle.rd_pg_frame.specs.MessagePlaces.{message_shows, message_made, message_from, none_from}
 

@@ -1,14 +1,14 @@
 -- What the front of some bytes shows, and that it stays as it is.
-use Rattle.std.proofs.Common.{◌≡◌, ◌≢◌, ℕ, suc, ◌+◌, ◌-◌, ◌^◌, ◌<◌, ◌≤◌, min, Bool, true, false, cond, leb, ltb, eqb, List, [], ◌∷◌, ◌++◌, length, take, drop, length-append, length-take, length-drop, Result, Ok, Err, refl, sym, ap, subst, ◌∙◌, arith}
-use Rattle.std.proofs.lemmas.Bool.{leb-true, leb-false, ltb-false, ltb-true, le-leb, le-ltb, and_parts, eqb-true}
+use Rattle.std.proofs.Common.{◌≡◌, ◌≢◌, ℕ, suc, ◌+◌, ◌-◌, ◌^◌, ◌≤◌, Bool, true, false, cond, leb, ltb, eqb, List, [], ◌∷◌, ◌++◌, length, take, drop, length-append, length-take, Result, Ok, Err, refl, sym, ap, subst, ◌∙◌, arith}
+use Rattle.std.proofs.lemmas.Bool.{leb-true, ltb-false, le-leb, le-ltb, and_parts, eqb-true}
 use Rattle.std.proofs.lemmas.List.{take-append-le, drop-append-le, drop-take, take-take}
 use Rattle.rd_base.specs.declared.values.Scan.{Scan}
-use Rattle.rd_base.specs.declared.values.Scan.TheVariants.{More, Bad, Unsupported}
+use Rattle.rd_base.specs.declared.values.Scan.TheVariants.{More, Bad}
 use Rattle.rd_pg_frame.specs.declared.place.Role.{Role}
 use Rattle.rd_pg_frame.specs.declared.place.Role.TheVariants.{Inner, Last, Authentication, Status}
 use Rattle.rd_pg_frame.specs.declared.front.Front.{Front}
 use Rattle.rd_pg_frame.specs.Letters.{Letters}
-use Rattle.rd_pg_frame.specs.Messages.{be_u32, is_length, is_among}
+use Rattle.rd_pg_frame.specs.Messages.{be_u32, is_length}
 use Rattle.rd_pg_frame.specs.Fronts.{role_of, code_ends, status_ends, ends, and_then, if_there, measured, sized, front_of}
 
 -- the message that stands at the front

@@ -1,5 +1,5 @@
 -- Units of messages are cut in one way.
-use Rattle.std.proofs.Common.{◌≡◌, ◌≢◌, ℕ, zero, suc, ◌+◌, ◌-◌, ◌<◌, ◌≤◌, Bool, true, false, ◌&&◌, cond, List, [], ◌∷◌, ◌++◌, length, take, drop, take-add, leb, length-append, length-take, length-drop, Result, Ok, Err, refl, sym, ap, subst, ◌∙◌, arith}
+use Rattle.std.proofs.Common.{◌≡◌, ◌≢◌, ℕ, zero, suc, ◌+◌, ◌<◌, ◌≤◌, Bool, true, false, ◌&&◌, cond, List, [], ◌∷◌, ◌++◌, length, take, drop, take-add, leb, length-append, length-take, length-drop, Result, Ok, Err, refl, sym, ap, subst, ◌∙◌, arith}
 use Rattle.std.proofs.lemmas.List.{drop-append-le, drop-take}
 use Rattle.rd_base.specs.declared.values.Scan.{Scan}
 use Rattle.rd_base.specs.declared.values.Scan.TheVariants.{Whole, More, Bad, TooBig, Unsupported}
@@ -7,8 +7,8 @@ use Rattle.rd_pg_frame.specs.declared.place.Role.{Role}
 use Rattle.rd_pg_frame.specs.declared.place.Role.TheVariants.{Inner, Last, Authentication, Status}
 use Rattle.rd_pg_frame.specs.declared.front.Front.{Front}
 use Rattle.rd_pg_frame.specs.Letters.{Letters}
-use Rattle.rd_pg_frame.specs.Messages.{be_u32, is_length, is_among}
-use Rattle.rd_pg_frame.specs.Fronts.{role_of, code_ends, status_ends, ends, and_then, if_there, measured, sized, front_of}
+use Rattle.rd_pg_frame.specs.Messages.{be_u32, is_among}
+use Rattle.rd_pg_frame.specs.Fronts.{role_of, ends, and_then, if_there, sized, front_of}
 use Rattle.rd_pg_frame.specs.FrontLaws.{Keeps, front_fits, front_itself, front_keeps}
 use Rattle.rd_pg_frame.specs.Scanning.{behind, go_on, scan_up_to, scan_messages}
 use Rattle.rd_pg_frame.specs.Framing.{IsFraming}

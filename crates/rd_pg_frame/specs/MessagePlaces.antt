@@ -1,11 +1,10 @@
 -- Where messages stand, one behind another.
-use Rattle.std.proofs.Common.{◌≡◌, ℕ, zero, suc, ◌+◌, ◌-◌, ◌<◌, ◌≤◌, ◌^◌, Bool, true, false, ◌&&◌, cond, leb, ltb, List, length, take, drop, get_or, length-drop, drop-drop, Option, Some, None, refl, sym, ap, subst, ◌∙◌, arith}
+use Rattle.std.proofs.Common.{◌≡◌, ℕ, ◌+◌, ◌-◌, ◌^◌, Bool, true, false, ◌&&◌, cond, leb, ltb, List, length, take, drop, length-drop, drop-drop, Option, Some, None, refl, sym, ap, ◌∙◌, arith}
 use Rattle.std.proofs.lemmas.Bool.{leb-true, ltb-true, le-leb, lt-ltb, and_parts, and_from}
 use Rattle.std.proofs.lemmas.List.{get_or-drop}
-use Rattle.std.specs.Prelude.{slice_index, slice_range}
+use Rattle.std.specs.Prelude.{slice_index}
 use Rattle.rd_pg_frame.specs.declared.message.Message.{Message}
 use Rattle.rd_pg_frame.specs.Messages.{be_u32, be_u32_at, is_length, message_at, IsMessageAt}
-use Rattle.rd_pg_frame.specs.Phases.{letter_behind, last_letter_up_to}
 
 abbrev is_there : List ℕ → ℕ → ℕ → Bool
 is_there bytes at len = leb (at + 5) (length bytes) && is_length len && leb (at + 1 + len) (length bytes)

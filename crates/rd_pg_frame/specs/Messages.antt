@@ -1,6 +1,6 @@
 -- Numbers and messages in bytes.
 -- PostgreSQL manual, Frontend/Backend Protocol, Message Data Types and Message Formats.
-use Rattle.std.specs.Prelude.{◌≡◌, ℕ, ◌+◌, ◌-◌, ◌≤◌, ◌<◌, ◌^◌, ◌==◌, ◌&&◌, nat_le, nat_lt, Bool, if◌then◌else◌, List, [], ◌∷◌, ◌++◌, length, take, drop, Option, Some, None, slice_index, slice_range}
+use Rattle.std.specs.Prelude.{◌≡◌, ℕ, ◌+◌, ◌≤◌, ◌<◌, ◌^◌, ◌==◌, ◌&&◌, nat_le, nat_lt, Bool, if◌then◌else◌, List, ◌∷◌, ◌++◌, length, Option, Some, None, slice_index, slice_range}
 use Rattle.std.specs.List.{list_any}
 use Rattle.std.specs.Int.{w16, w32, from_be_bytes}
 use Rattle.rd_pg_frame.specs.declared.message.Message.{Message}

@@ -1,25 +1,23 @@
 -- The scan of a reply finds exactly the replies to its note, and the last letter tells the phase after it.
-use Rattle.std.proofs.Common.{◌≡◌, ◌≢◌, ℕ, zero, suc, ◌+◌, ◌-◌, ◌<◌, ◌≤◌, ◌^◌, inl, inr, Bool, true, false, ◌&&◌, ◌||◌, cond, leb, ltb, eqb, List, [], ◌∷◌, ◌++◌, length, take, drop, length-append, append_assoc, Option, Some, None, refl, sym, ap, subst, ◌∙◌, arith}
+use Rattle.std.proofs.Common.{◌≡◌, ℕ, zero, suc, ◌+◌, ◌≤◌, inl, inr, Bool, true, false, ◌||◌, cond, eqb, List, [], ◌∷◌, ◌++◌, length, take, drop, length-append, append_assoc, Some, refl, sym, ap, subst, ◌∙◌, arith}
 use Rattle.std.specs.Prelude.{◌⊎◌, codes, slice_index}
 use Rattle.std.proofs.lemmas.Bool.{eqb-true, or_cases}
 use Rattle.std.proofs.lemmas.List.{take_at, drop_at, append-nil}
-use Rattle.rd_base.specs.declared.values.Scan.{Scan}
 use Rattle.rd_base.specs.declared.values.Scan.TheVariants.{Whole}
 use Rattle.rd_base.specs.declared.values.Phase.{Phase}
 use Rattle.rd_base.specs.declared.values.Note.{Note}
 use Rattle.rd_base.specs.declared.values.Side.{Side}
-use Rattle.rd_pg_frame.specs.declared.message.Message.{Message}
-use Rattle.rd_pg_frame.specs.Letters.{Letters, logging_in, asking_codes, query_reply}
+use Rattle.rd_pg_frame.specs.Letters.{logging_in, asking_codes, query_reply}
 use Rattle.rd_pg_frame.specs.Messages.{be_u32, be_u32_at, is_among, message_at, IsMessage}
 use Rattle.rd_pg_frame.specs.MessagePlaces.{message_made}
 use Rattle.rd_pg_frame.specs.Scanning.{scan_messages, scan_answer, scan_nothing, scan_reply}
-use Rattle.rd_pg_frame.specs.Phases.{phase_open, phase_password, phase_ready, phase_over, note_ssl, note_gss, note_startup, note_password, note_query, note_extended, letter_behind, last_letter_up_to, last_letter, login_phase, phase_after}
-use Rattle.rd_pg_frame.specs.Units.{IsOneOf, IsAuthentication, HasStatus, IsSequence, IsReply, IsReplyTo, IsLoginStep, IsReady, IsError, IsAnswer, Finds}
+use Rattle.rd_pg_frame.specs.Phases.{phase_open, phase_password, phase_ready, phase_over, note_ssl, note_gss, note_startup, note_password, letter_behind, last_letter_up_to, login_phase, phase_after}
+use Rattle.rd_pg_frame.specs.Units.{IsOneOf, IsAuthentication, IsSequence, IsReply, IsReplyTo, IsLoginStep, IsReady, IsError, IsAnswer, Finds}
 use Rattle.rd_pg_frame.specs.Units.IsSequence.{Ends, Goes}
 use Rattle.rd_pg_frame.specs.Units.IsReply.{NoSsl, NoGss, LoggedIn, Refused, Asked, Accepted, Denied, Answered, Synced}
 use Rattle.rd_pg_frame.specs.PacketLaws.{answer_one, nothing_whole}
 use Rattle.rd_pg_frame.specs.UnitLaws.{IsInner, IsLast, unit_shown, unit_made}
-use Rattle.rd_pg_frame.specs.TableLaws.{Each, each_among, startup_table, secret_table, query_table}
+use Rattle.rd_pg_frame.specs.TableLaws.{each_among, startup_table, secret_table, query_table}
 use Rattle.rd_pg_frame.specs.ScanLaws.{reply_framing}
 use Rattle.rd_pg_frame.specs.RequestLaws.{finds, sequence_map, none_of, none_asks, none_authenticates}
 

@@ -1,5 +1,5 @@
 -- The scan of a request finds exactly the requests of its phase.
-use Rattle.std.proofs.Common.{◌≡◌, ◌≢◌, ℕ, zero, suc, ◌+◌, ◌-◌, ◌<◌, ◌≤◌, ◌^◌, inl, inr, Bool, true, false, ◌&&◌, ◌||◌, cond, leb, ltb, eqb, List, [], ◌∷◌, ◌++◌, length, take, drop, get_or, length-append, length-take, length-drop, Option, Some, None, refl, sym, ap, subst, ◌∙◌, arith}
+use Rattle.std.proofs.Common.{◌≡◌, ℕ, ◌+◌, ◌≤◌, inl, inr, Bool, true, false, ◌||◌, cond, leb, eqb, List, [], ◌∷◌, ◌++◌, length, take, drop, length-append, length-take, length-drop, Option, Some, None, refl, sym, ap, subst, ◌∙◌, arith}
 use Rattle.std.specs.Prelude.{◌⊎◌, codes, slice_index}
 use Rattle.std.proofs.lemmas.Bool.{leb-true, le-leb, eqb-true, and_parts, and_from, or_cases}
 use Rattle.std.proofs.lemmas.List.{take_at, drop_at, take-append-drop}
@@ -7,7 +7,7 @@ use Rattle.rd_base.specs.declared.values.Scan.{Scan}
 use Rattle.rd_base.specs.declared.values.Scan.TheVariants.{Whole}
 use Rattle.rd_base.specs.declared.values.Phase.{Phase}
 use Rattle.rd_base.specs.declared.values.Note.{Note}
-use Rattle.rd_pg_frame.specs.Letters.{Letters, password, ready}
+use Rattle.rd_pg_frame.specs.Letters.{password, ready}
 use Rattle.rd_pg_frame.specs.Messages.{be_u32, be_u32_at, is_among, IsMessage}
 use Rattle.rd_pg_frame.specs.Scanning.{scan_packet, packet_lengths, scan_messages, scan_nothing, scan_request}
 use Rattle.rd_pg_frame.specs.Phases.{phase_open, phase_password, phase_ready, note_ssl, note_gss, note_startup, note_password, note_query, note_extended, note_farewell, packet_note, secret_note, ready_note, note_of}

@@ -1,5 +1,5 @@
 -- Requests and replies are cut in one way, and nothing is a request once a conversation is over.
-use Rattle.std.proofs.Common.{◌≡◌, ◌≢◌, ℕ, true, eqb, ◌||◌, List, [], refl, sym, subst}
+use Rattle.std.proofs.Common.{◌≡◌, ◌≢◌, ℕ, true, eqb, ◌||◌, List, [], sym, subst}
 use Rattle.std.proofs.lemmas.Bool.{eqb-true}
 use Rattle.rd_base.specs.declared.values.Scan.TheVariants.{Whole}
 use Rattle.rd_base.specs.declared.values.Phase.{Phase}

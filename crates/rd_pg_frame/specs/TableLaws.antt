@@ -1,9 +1,8 @@
 -- The tables of letters: no letter stands in two lists of one.
-use Rattle.std.proofs.Common.{◌≡◌, ℕ, Bool, true, false, ◌||◌, eqb, List, [], ◌∷◌, Result, Ok, refl, subst}
+use Rattle.std.proofs.Common.{◌≡◌, ℕ, Bool, true, false, eqb, List, [], ◌∷◌, Ok, refl, subst}
 use Rattle.std.proofs.lemmas.Bool.{or_cases, eqb-true}
 use Rattle.std.specs.Prelude.{◌⊎◌, codes}
 use Rattle.std.proofs.Common.{inl, inr}
-use Rattle.rd_base.specs.declared.values.Scan.{Scan}
 use Rattle.rd_base.specs.declared.values.Side.{Side}
 use Rattle.rd_base.specs.declared.values.Side.TheVariants.{Incoming, Outgoing}
 use Rattle.rd_pg_frame.specs.declared.place.Role.{Role}

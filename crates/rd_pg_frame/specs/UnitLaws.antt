@@ -1,7 +1,7 @@
 -- A scan of messages finds exactly the sequences of messages that its letters make.
-use Rattle.std.proofs.Common.{◌≡◌, ◌≢◌, ℕ, zero, suc, ◌+◌, ◌-◌, ◌<◌, ◌≤◌, ◌^◌, ◌⊎◌, inl, inr, Bool, true, false, ◌&&◌, ◌||◌, cond, leb, ltb, eqb, List, [], ◌∷◌, ◌++◌, length, take, drop, length-append, length-take, length-drop, append_assoc, Result, Ok, Err, refl, sym, ap, subst, ◌∙◌, arith}
+use Rattle.std.proofs.Common.{◌≡◌, ℕ, zero, suc, ◌+◌, ◌≤◌, ◌^◌, ◌⊎◌, inl, inr, Bool, true, false, ◌&&◌, cond, leb, ltb, eqb, List, [], ◌∷◌, ◌++◌, length, take, drop, length-append, length-take, length-drop, Result, Ok, Err, refl, sym, ap, subst, ◌∙◌, arith}
 use Rattle.std.specs.Prelude.{codes}
-use Rattle.std.proofs.lemmas.Bool.{leb-true, ltb-true, ltb-false, le-leb, lt-ltb, le-ltb, eqb-true, eq-eqb, and_parts, and_from}
+use Rattle.std.proofs.lemmas.Bool.{ltb-true, ltb-false, le-leb, lt-ltb, le-ltb, eqb-true, and_parts, and_from}
 use Rattle.std.proofs.lemmas.List.{take_at, drop_at, take-append-drop}
 use Rattle.rd_base.specs.declared.values.Scan.{Scan}
 use Rattle.rd_base.specs.declared.values.Scan.TheVariants.{Whole, More, Bad, Unsupported}
@@ -11,9 +11,9 @@ use Rattle.rd_pg_frame.specs.declared.front.Front.{Front}
 use Rattle.rd_pg_frame.specs.Letters.{Letters}
 use Rattle.rd_pg_frame.specs.Messages.{be_u32, is_length, is_among, IsMessage}
 use Rattle.rd_pg_frame.specs.Fronts.{role_of, code_ends, status_ends, ends, front_of}
-use Rattle.rd_pg_frame.specs.FrontLaws.{IsFront, front_shows, front_made, front_fits, front_itself, front_keeps, Keeps}
+use Rattle.rd_pg_frame.specs.FrontLaws.{front_shows, front_made, front_fits, front_itself, front_keeps, Keeps}
 use Rattle.rd_pg_frame.specs.Scanning.{behind, go_on, scan_up_to, scan_messages}
-use Rattle.rd_pg_frame.specs.MessageLaws.{enough, behind_whole, stopped_never}
+use Rattle.rd_pg_frame.specs.MessageLaws.{behind_whole, stopped_never}
 use Rattle.rd_pg_frame.specs.Units.{IsOneOf, IsAuthentication, HasStatus, IsSequence}
 use Rattle.rd_pg_frame.specs.Units.IsSequence.{Ends, Goes}
 

@@ -1,4 +1,4 @@
-ghost use Rattle.std.specs.Prelude.{◌≡◌, ◌+◌, ◌≤◌, ◌<◌, length, IfOk, drop};
+ghost use Rattle.std.specs.Prelude.{◌≡◌, ◌+◌, ◌≤◌, ◌<◌, length, IfOk};
 ghost use Rattle.rd_pg_frame.specs.Letters.{letters_of};
 ghost use Rattle.rd_pg_frame.specs.Fronts.{front_of, sized, measured, ends, status_ends};
 

@@ -1,4 +1,4 @@
-ghost use Rattle.std.specs.Prelude.{◌≡◌, true, false, [], codes, if◌then◌else◌};
+ghost use Rattle.std.specs.Prelude.{◌≡◌, false, [], codes, if◌then◌else◌};
 ghost use Rattle.rd_base.specs.declared.values.Scan.TheVariants.{Bad, Unsupported};
 ghost use Rattle.rd_pg_frame.specs.Letters.{letters_of, password, ready, logging_in, query_reply};
 ghost use Rattle.rd_pg_frame.specs.Messages.{is_among};

@@ -20,7 +20,11 @@ const PROTOCOL_3_0: u32 = 196_608;
 /// What the bytes of a client come to in this phase: 0 is Open, 1 Password, 2 Ready, 3 Over.
 pub fn scan_request(phase: Phase, bytes: &[u8]) -> Scan
     ensures scan { result ≡ scan_request phase bytes.now }
+
+    // It is whole exactly where the bytes begin with a request of the phase, and has its length.
     ensures units { Finds (IsRequestIn phase) (scan_request phase) }
+
+    // What is told stays, whatever follows: no request begins another, and hopeless bytes begin none.
     ensures framing { IsFraming (scan_request phase) }
     ensures over { phase.0 ≡ 3 → (len : ℕ) → result ≢ Whole len }
 {
@@ -35,7 +39,11 @@ pub fn scan_request(phase: Phase, bytes: &[u8]) -> Scan
 /// What the bytes of a backend come to after a request with this note.
 pub fn scan_reply(side: Side, note: Note, bytes: &[u8]) -> Scan
     ensures scan { result ≡ scan_reply side note bytes.now }
+
+    // It is whole exactly where the bytes begin with a reply to such a request, and has its length.
     ensures units { Finds (IsReplyTo side note) (scan_reply side note) }
+
+    // What is told stays, whatever follows: no reply begins another, and hopeless bytes begin none.
     ensures framing { IsFraming (scan_reply side note) }
 {
     match note.0 {
@@ -48,6 +56,7 @@ pub fn scan_reply(side: Side, note: Note, bytes: &[u8]) -> Scan
     }
 }
 
+/// Messages, up to the first that ends their unit.
 fn scan_messages(place: Place, bytes: &[u8]) -> Scan
     ensures { result ≡ scan_messages (letters_of place) bytes.now }
 {
@@ -61,6 +70,7 @@ fn scan_messages(place: Place, bytes: &[u8]) -> Scan
     }
 }
 
+/// A packet without a letter: its length, its code, the rest.
 fn scan_packet(bytes: &[u8]) -> Scan
     ensures { result ≡ scan_packet packet_lengths bytes.now }
 {
@@ -101,6 +111,7 @@ fn scan_answer(granting: u8, bytes: &[u8]) -> Scan
     }
 }
 
+/// Where nothing may come.
 fn scan_nothing(bytes: &[u8]) -> Scan
     ensures { result ≡ scan_nothing bytes.now }
 {

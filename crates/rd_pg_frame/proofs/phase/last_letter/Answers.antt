@@ -1,4 +1,4 @@
-use Rattle.std.proofs.Common.{◌≡◌, ◌∙◌, ap, sym, length, arith, refl}
+use Rattle.std.proofs.Common.{◌∙◌, sym, length, arith, refl}
 use Rattle.rd_pg_frame.specs.MessagePlaces.{message_shows}
 use Rattle.rd_pg_frame.proofs.Following.{letters_on, letters_end}
 use Rattle.rd_pg_frame.proofs.phase.last_letter.Goals as goal

@@ -1,4 +1,4 @@
-use Rattle.std.proofs.Common.{◌≡◌, ◌==◌, ◌∙◌, ap, sym, drop, length, length-drop, arith}
+use Rattle.std.proofs.Common.{◌==◌, ◌∙◌, ap, sym, drop, length, length-drop, arith}
 use Rattle.std.proofs.lemmas.List.{take_rest}
 use Rattle.rd_pg_frame.specs.Letters.{letters_of}
 use Rattle.rd_pg_frame.specs.Fronts.{front_of}
