@@ -72,14 +72,17 @@ class Relay:
                 ready, _, _ = select.select(list(links), [], [])
                 for link in ready:
                     mark, other = links[link]
-                    data = link.recv(65536)
-                    if not data:
-                        del links[link]
-                        other.shutdown(socket.SHUT_WR)
-                        continue
-                    with self.lock:
-                        self.reads.append((number, mark, data))
-                    other.sendall(data)
+                    try:
+                        data = link.recv(65536)
+                        if data:
+                            with self.lock:
+                                self.reads.append((number, mark, data))
+                            other.sendall(data)
+                        else:
+                            del links[link]
+                            other.shutdown(socket.SHUT_WR)
+                    except OSError:
+                        links.pop(link, None)
 
     def wait(self):
         """Waits until each connection is closed on both sides."""

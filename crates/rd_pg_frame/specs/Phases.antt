@@ -40,12 +40,12 @@ abbrev pub note_farewell : Note
 note_farewell = record { 0 = 7 }
 
 -- by the code: SSLRequest, GSSENCRequest, else a startup
-abbrev pub packet_note : ℕ → Note
-packet_note code = if code == 80877103 then note_ssl else if code == 80877104 then note_gss else note_startup
+abbrev pub open_note : ℕ → Note
+open_note code = if code == 80877103 then note_ssl else if code == 80877104 then note_gss else note_startup
 
 -- `X`, else `p`
-abbrev pub secret_note : ℕ → Note
-secret_note letter = if letter == 88 then note_farewell else note_password
+abbrev pub password_note : ℕ → Note
+password_note letter = if letter == 88 then note_farewell else note_password
 
 -- `X`, `Q`, else an extended query
 abbrev pub ready_note : ℕ → Note
@@ -53,8 +53,8 @@ ready_note letter = if letter == 88 then note_farewell else if letter == 81 then
 
 abbrev pub note_of : Phase → List ℕ → Note
 note_of phase unit =
-    if phase.0 == 0 then packet_note (be_u32_at unit 4)
-    else if phase.0 == 1 then secret_note (slice_index unit 0)
+    if phase.0 == 0 then open_note (be_u32_at unit 4)
+    else if phase.0 == 1 then password_note (slice_index unit 0)
     else ready_note (slice_index unit 0)
 
 abbrev pub letter_behind : Option Message → ℕ → (Message → ℕ) → ℕ

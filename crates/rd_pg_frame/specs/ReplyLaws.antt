@@ -17,7 +17,7 @@ use Rattle.rd_pg_frame.specs.Units.IsSequence.{Ends, Goes}
 use Rattle.rd_pg_frame.specs.Units.IsReply.{NoSsl, NoGss, LoggedIn, Refused, Asked, Accepted, Denied, Answered, Synced}
 use Rattle.rd_pg_frame.specs.PacketLaws.{answer_one, nothing_whole}
 use Rattle.rd_pg_frame.specs.UnitLaws.{IsInner, IsLast, unit_shown, unit_made}
-use Rattle.rd_pg_frame.specs.TableLaws.{each_among, startup_table, secret_table, query_table}
+use Rattle.rd_pg_frame.specs.TableLaws.{each_among, startup_table, password_reply_table, query_table}
 use Rattle.rd_pg_frame.specs.ScanLaws.{reply_framing}
 use Rattle.rd_pg_frame.specs.RequestLaws.{finds, sequence_map, none_of, none_asks, none_authenticates}
 
@@ -59,8 +59,8 @@ startup_shown side bytes e = go (login_shown (asking_codes side) bytes e)
     go (inr (inl s)) = (phase_password, Asked bytes s)
     go (inr (inr s)) = (phase_ready, LoggedIn bytes s)
 
-secret_shown : (side : Side) (bytes : List ℕ) → scan_messages (logging_in []) bytes ≡ Whole (length bytes) → IsReplyTo side note_password bytes
-secret_shown side bytes e = go (login_shown [] bytes e)
+password_reply_shown : (side : Side) (bytes : List ℕ) → scan_messages (logging_in []) bytes ≡ Whole (length bytes) → IsReplyTo side note_password bytes
+password_reply_shown side bytes e = go (login_shown [] bytes e)
   where
     never : (b : List ℕ) → IsSequence IsLoginStep (IsAuthentication (codes "R") []) b → ⊥
     never b (Ends c a) = none_asks (codes "R") c a
@@ -105,8 +105,8 @@ reply_made side note phase bytes NoGss = refl
 reply_made side note phase bytes (LoggedIn b s) = unit_made (logging_in (asking_codes side)) (startup_table side) b (inr (login_ready (asking_codes side) b s))
 reply_made side note phase bytes (Refused b s) = unit_made (logging_in (asking_codes side)) (startup_table side) b (inr (login_failed (asking_codes side) b s))
 reply_made side note phase bytes (Asked b s) = unit_made (logging_in (asking_codes side)) (startup_table side) b (inr (login_asked (asking_codes side) b s))
-reply_made side note phase bytes (Accepted b s) = unit_made (logging_in []) secret_table b (inr (login_ready [] b s))
-reply_made side note phase bytes (Denied b s) = unit_made (logging_in []) secret_table b (inr (login_failed [] b s))
+reply_made side note phase bytes (Accepted b s) = unit_made (logging_in []) password_reply_table b (inr (login_ready [] b s))
+reply_made side note phase bytes (Denied b s) = unit_made (logging_in []) password_reply_table b (inr (login_failed [] b s))
 reply_made side note phase bytes (Answered b s) = query_made b s
 reply_made side note phase bytes (Synced b s) = query_made b s
 
@@ -121,13 +121,13 @@ reply_shown side note bytes e = by_ssl (eqb note.0 1) refl e
     by_query true is q = by_either (or_cases (eqb note.0 5) (eqb note.0 6) is) (query_shown bytes q)
     by_query false is q = absurd (nothing_whole bytes (length bytes) q)
 
-    by_secret : (t : Bool) → eqb note.0 4 ≡ t → cond t (scan_messages (logging_in []) bytes) (cond (eqb note.0 5 || eqb note.0 6) (scan_messages query_reply bytes) (scan_nothing bytes)) ≡ Whole (length bytes) → IsReplyTo side note bytes
-    by_secret true is q = subst (λ n. IsReplyTo side (record { 0 = n }) bytes) (sym (eqb-true note.0 4 is)) (secret_shown side bytes q)
-    by_secret false is q = by_query (eqb note.0 5 || eqb note.0 6) refl q
+    by_password : (t : Bool) → eqb note.0 4 ≡ t → cond t (scan_messages (logging_in []) bytes) (cond (eqb note.0 5 || eqb note.0 6) (scan_messages query_reply bytes) (scan_nothing bytes)) ≡ Whole (length bytes) → IsReplyTo side note bytes
+    by_password true is q = subst (λ n. IsReplyTo side (record { 0 = n }) bytes) (sym (eqb-true note.0 4 is)) (password_reply_shown side bytes q)
+    by_password false is q = by_query (eqb note.0 5 || eqb note.0 6) refl q
 
     by_startup : (t : Bool) → eqb note.0 3 ≡ t → cond t (scan_messages (logging_in (asking_codes side)) bytes) (cond (eqb note.0 4) (scan_messages (logging_in []) bytes) (cond (eqb note.0 5 || eqb note.0 6) (scan_messages query_reply bytes) (scan_nothing bytes))) ≡ Whole (length bytes) → IsReplyTo side note bytes
     by_startup true is q = subst (λ n. IsReplyTo side (record { 0 = n }) bytes) (sym (eqb-true note.0 3 is)) (startup_shown side bytes q)
-    by_startup false is q = by_secret (eqb note.0 4) refl q
+    by_startup false is q = by_password (eqb note.0 4) refl q
 
     by_gss : (t : Bool) → eqb note.0 2 ≡ t → cond t (scan_answer 71 bytes) (cond (eqb note.0 3) (scan_messages (logging_in (asking_codes side)) bytes) (cond (eqb note.0 4) (scan_messages (logging_in []) bytes) (cond (eqb note.0 5 || eqb note.0 6) (scan_messages query_reply bytes) (scan_nothing bytes)))) ≡ Whole (length bytes) → IsReplyTo side note bytes
     by_gss true is q = subst (λ n. IsReplyTo side (record { 0 = n }) bytes) (sym (eqb-true note.0 2 is)) (subst (IsReplyTo side note_gss) (answer_shown 71 bytes q) (phase_open, NoGss))
@@ -204,8 +204,8 @@ ready_is b s = (s.status ∷ [], subst (λ l. IsMessage l (s.status ∷ []) b) (
 error_is : (b : List ℕ) → IsError b → (content : List ℕ) × IsMessage 69 content b
 error_is b one = (one.content, subst (λ l. IsMessage l one.content b) (sym (only_letter 69 one.letter one.among)) one.message)
 
-question_is : (asked : List ℕ) (b : List ℕ) → IsAuthentication (codes "R") asked b → (content : List ℕ) × IsMessage 82 content b
-question_is asked b a = (a.named ++ a.rest, subst (λ l. IsMessage l (a.named ++ a.rest) b) (sym (only_letter 82 a.letter a.among)) a.message)
+asking_is : (asked : List ℕ) (b : List ℕ) → IsAuthentication (codes "R") asked b → (content : List ℕ) × IsMessage 82 content b
+asking_is asked b a = (a.named ++ a.rest, subst (λ l. IsMessage l (a.named ++ a.rest) b) (sym (only_letter 82 a.letter a.among)) a.message)
 
 -- there is one phase after a reply
 pub reply_phased : (side : Side) (note : Note) (phase : Phase) (bytes : List ℕ) → IsReply side note phase bytes → phase ≡ phase_after note bytes
@@ -213,7 +213,7 @@ reply_phased side note phase bytes NoSsl = refl
 reply_phased side note phase bytes NoGss = refl
 reply_phased side note phase bytes (LoggedIn b s) = ap login_phase (sym (last_of IsLoginStep IsReady 90 step_is ready_is b s (length b) 0 (omega arith)))
 reply_phased side note phase bytes (Refused b s) = ap login_phase (sym (last_of IsLoginStep IsError 69 step_is error_is b s (length b) 0 (omega arith)))
-reply_phased side note phase bytes (Asked b s) = ap login_phase (sym (last_of IsLoginStep (IsAuthentication (codes "R") (asking_codes side)) 82 step_is (question_is (asking_codes side)) b s (length b) 0 (omega arith)))
+reply_phased side note phase bytes (Asked b s) = ap login_phase (sym (last_of IsLoginStep (IsAuthentication (codes "R") (asking_codes side)) 82 step_is (asking_is (asking_codes side)) b s (length b) 0 (omega arith)))
 reply_phased side note phase bytes (Accepted b s) = ap login_phase (sym (last_of IsLoginStep IsReady 90 step_is ready_is b s (length b) 0 (omega arith)))
 reply_phased side note phase bytes (Denied b s) = ap login_phase (sym (last_of IsLoginStep IsError 69 step_is error_is b s (length b) 0 (omega arith)))
 reply_phased side note phase bytes (Answered b s) = refl

@@ -10,10 +10,10 @@ use Rattle.rd_base.specs.declared.values.Note.{Note}
 use Rattle.rd_pg_frame.specs.Letters.{password, ready}
 use Rattle.rd_pg_frame.specs.Messages.{be_u32, be_u32_at, is_among, IsMessage}
 use Rattle.rd_pg_frame.specs.Scanning.{scan_packet, packet_lengths, scan_messages, scan_nothing, scan_request}
-use Rattle.rd_pg_frame.specs.Phases.{phase_open, phase_password, phase_ready, note_ssl, note_gss, note_startup, note_password, note_query, note_extended, note_farewell, packet_note, secret_note, ready_note, note_of}
+use Rattle.rd_pg_frame.specs.Phases.{phase_open, phase_password, phase_ready, note_ssl, note_gss, note_startup, note_password, note_query, note_extended, note_farewell, open_note, password_note, ready_note, note_of}
 use Rattle.rd_pg_frame.specs.Units.{IsPacket, IsOneOf, IsAuthentication, HasStatus, IsSequence, IsRequest, IsRequestIn, Finds}
 use Rattle.rd_pg_frame.specs.Units.IsSequence.{Ends, Goes}
-use Rattle.rd_pg_frame.specs.Units.IsRequest.{SslRequest, GssRequest, Startup, Secret, Query, Extended, Unasked, Farewell}
+use Rattle.rd_pg_frame.specs.Units.IsRequest.{SslRequest, GssRequest, Startup, Password, Query, Extended, PasswordFarewell, Farewell}
 use Rattle.rd_pg_frame.specs.Framing.{IsFraming}
 use Rattle.rd_pg_frame.specs.PacketLaws.{IsWhole, whole_shows, whole_made, nothing_whole}
 use Rattle.rd_pg_frame.specs.UnitLaws.{IsInner, IsLast, unit_shown, unit_made}
@@ -73,8 +73,8 @@ password_shown : (bytes : List ℕ) → scan_messages password bytes ≡ Whole (
 password_shown bytes e = go (unit_shown password bytes e)
   where
     alone : IsOneOf (codes "p") bytes ⊎ IsOneOf (codes "X") bytes → IsRequestIn phase_password bytes
-    alone (inl secret) = (note_password, Secret bytes secret)
-    alone (inr farewell) = (note_farewell, Unasked bytes farewell)
+    alone (inl password) = (note_password, Password bytes password)
+    alone (inr farewell) = (note_farewell, PasswordFarewell bytes farewell)
 
     never : (b : List ℕ) → IsSequence (IsInner password) (IsLast password) b → ⊥
     never b (Ends c (inl one)) = none_of c one
@@ -216,8 +216,8 @@ request_made : (phase : Phase) (note : Note) (bytes : List ℕ) → IsRequest ph
 request_made phase note bytes (SslRequest b p) = packet_made 80877103 [] b 8 8 refl (omega arith) (omega arith) (omega arith) p
 request_made phase note bytes (GssRequest b p) = packet_made 80877104 [] b 8 8 refl (omega arith) (omega arith) (omega arith) p
 request_made phase note bytes (Startup rest b low high p) = packet_made 196608 rest b 9 10000 refl low high high p
-request_made phase note bytes (Secret b one) = unit_made password password_table b (inl (refl, join_first 112 (codes "X") b one))
-request_made phase note bytes (Unasked b one) = unit_made password password_table b (inl (refl, join_later 112 (codes "X") b one))
+request_made phase note bytes (Password b one) = unit_made password password_table b (inl (refl, join_first 112 (codes "X") b one))
+request_made phase note bytes (PasswordFarewell b one) = unit_made password password_table b (inl (refl, join_later 112 (codes "X") b one))
 request_made phase note bytes (Query b one) = unit_made ready ready_table b (inl (refl, join_first 81 (codes "X") b one))
 request_made phase note bytes (Farewell b one) = unit_made ready ready_table b (inl (refl, join_later 81 (codes "X") b one))
 request_made phase note bytes (Extended b sequence) = unit_made ready ready_table b (inr (ready_made b sequence))
@@ -256,19 +256,19 @@ sequence_first bytes (Ends b last) = only_of (codes "S") b (λ l. note_extended 
 sequence_first bytes (Goes front rest inner sequence) =
     first_of (codes "PBDEC") front rest (λ l. note_extended ≡ ready_note l) (refl, (refl, (refl, (refl, (refl, tt))))) inner
 
-packet_noted : (code : ℕ) (rest bytes : List ℕ) → IsPacket code rest bytes → packet_note code ≡ packet_note (be_u32_at bytes 4)
-packet_noted code rest bytes p =
+open_noted : (code : ℕ) (rest bytes : List ℕ) → IsPacket code rest bytes → open_note code ≡ open_note (be_u32_at bytes 4)
+open_noted code rest bytes p =
     let named = p.named ++ rest in
     let second : take 4 (drop 4 bytes) ≡ p.named = ap (λ b. take 4 (drop 4 b)) (sym p.is) ∙ ap (take 4) (drop_at p.size named 4 p.four) ∙ take_at p.named rest 4 p.four_more in
-    ap packet_note (sym (ap be_u32 second ∙ p.code_is))
+    ap open_note (sym (ap be_u32 second ∙ p.code_is))
 
 -- a request has one note
 pub request_noted : (phase : Phase) (note : Note) (bytes : List ℕ) → IsRequest phase note bytes → note ≡ note_of phase bytes
-request_noted phase note bytes (SslRequest b p) = packet_noted 80877103 [] b p
-request_noted phase note bytes (GssRequest b p) = packet_noted 80877104 [] b p
-request_noted phase note bytes (Startup rest b low high p) = packet_noted 196608 rest b p
-request_noted phase note bytes (Secret b one) = only_of (codes "p") b (λ l. note_password ≡ secret_note l) (refl, tt) one
-request_noted phase note bytes (Unasked b one) = only_of (codes "X") b (λ l. note_farewell ≡ secret_note l) (refl, tt) one
+request_noted phase note bytes (SslRequest b p) = open_noted 80877103 [] b p
+request_noted phase note bytes (GssRequest b p) = open_noted 80877104 [] b p
+request_noted phase note bytes (Startup rest b low high p) = open_noted 196608 rest b p
+request_noted phase note bytes (Password b one) = only_of (codes "p") b (λ l. note_password ≡ password_note l) (refl, tt) one
+request_noted phase note bytes (PasswordFarewell b one) = only_of (codes "X") b (λ l. note_farewell ≡ password_note l) (refl, tt) one
 request_noted phase note bytes (Query b one) = only_of (codes "Q") b (λ l. note_query ≡ ready_note l) (refl, tt) one
 request_noted phase note bytes (Farewell b one) = only_of (codes "X") b (λ l. note_farewell ≡ ready_note l) (refl, tt) one
 request_noted phase note bytes (Extended b sequence) = sequence_first b sequence

@@ -67,8 +67,8 @@ pub startup_table : (side : Side) → IsTable (logging_in (asking_codes side))
 startup_table Incoming = login_table (3 ∷ []) (each_among (λ code. code_ends (logging_in (3 ∷ [])) code ≡ Ok true) (3 ∷ []) (refl, tt))
 startup_table Outgoing = login_table (3 ∷ 5 ∷ []) (each_among (λ code. code_ends (logging_in (3 ∷ 5 ∷ [])) code ≡ Ok true) (3 ∷ 5 ∷ []) (refl, (refl, tt)))
 
-pub secret_table : IsTable (logging_in [])
-secret_table = login_table [] (λ code among. absurd (cc among))
+pub password_reply_table : IsTable (logging_in [])
+password_reply_table = login_table [] (λ code among. absurd (cc among))
 
 pub query_table : IsTable query_reply
 query_table =

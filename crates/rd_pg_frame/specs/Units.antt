@@ -59,13 +59,13 @@ pub data IsRequest : Phase → Note → List ℕ → Type 0 where
   -- Start-up: StartupMessage of version 3.0, with some parameters
   Startup : (rest bytes : List ℕ) → 9 ≤ 8 + length rest → 8 + length rest ≤ 10000 → IsPacket 196608 rest bytes → IsRequest phase_open note_startup bytes
   -- Start-up: PasswordMessage
-  Secret : (bytes : List ℕ) → IsOneOf (codes "p") bytes → IsRequest phase_password note_password bytes
+  Password : (bytes : List ℕ) → IsOneOf (codes "p") bytes → IsRequest phase_password note_password bytes
   -- Simple Query: Query
   Query : (bytes : List ℕ) → IsOneOf (codes "Q") bytes → IsRequest phase_ready note_query bytes
   -- Extended Query: Parse, Bind, Describe, Execute, Close, up to Sync
   Extended : (bytes : List ℕ) → IsSequence (IsOneOf (codes "PBDEC")) (IsOneOf (codes "S")) bytes → IsRequest phase_ready note_extended bytes
   -- Termination: Terminate
-  Unasked : (bytes : List ℕ) → IsOneOf (codes "X") bytes → IsRequest phase_password note_farewell bytes
+  PasswordFarewell : (bytes : List ℕ) → IsOneOf (codes "X") bytes → IsRequest phase_password note_farewell bytes
   Farewell : (bytes : List ℕ) → IsOneOf (codes "X") bytes → IsRequest phase_ready note_farewell bytes
 
 -- Start-up: AuthenticationOk, BackendKeyData, ParameterStatus, NoticeResponse

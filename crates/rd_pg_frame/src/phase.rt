@@ -3,7 +3,7 @@ ghost use Rattle.rd_base.specs.declared.values.Scan.TheVariants.{Whole};
 ghost use Rattle.rd_base.specs.declared.values.Side.{Side};
 ghost use Rattle.rd_pg_frame.specs.Scanning.{scan_request, scan_reply};
 ghost use Rattle.rd_pg_frame.specs.Units.{IsRequest, IsReply};
-ghost use Rattle.rd_pg_frame.specs.Phases.{note_of, packet_note, secret_note, ready_note, last_letter, login_phase, phase_after};
+ghost use Rattle.rd_pg_frame.specs.Phases.{note_of, open_note, password_note, ready_note, last_letter, login_phase, phase_after};
 
 use crate::message::{be_u32_at, message_at};
 use crate::scan::{GSS_REQUEST, SSL_REQUEST};
@@ -17,14 +17,14 @@ pub fn note_of(phase: Phase, unit: &[u8]) -> Note
     ensures request { IsRequest phase result unit.now }
 {
     match phase.0 {
-        0 => packet_note(be_u32_at(unit, 4)),
-        1 => secret_note(unit[0]),
+        0 => open_note(be_u32_at(unit, 4)),
+        1 => password_note(unit[0]),
         _ => ready_note(unit[0]),
     }
 }
 
-fn packet_note(code: u32) -> Note
-    ensures { result ≡ packet_note code }
+fn open_note(code: u32) -> Note
+    ensures { result ≡ open_note code }
 {
     match code {
         SSL_REQUEST => Note(1),
@@ -33,8 +33,8 @@ fn packet_note(code: u32) -> Note
     }
 }
 
-fn secret_note(letter: u8) -> Note
-    ensures { result ≡ secret_note letter }
+fn password_note(letter: u8) -> Note
+    ensures { result ≡ password_note letter }
 {
     match letter {
         b'X' => Note(7),
