@@ -1,0 +1,16 @@
+pub mod Messages
+pub mod Letters
+pub mod Fronts
+pub mod Scanning
+pub mod Phases
+pub mod MessagePlaces
+pub mod Units
+pub mod UnitLaws
+pub mod TableLaws
+pub mod RequestLaws
+pub mod ReplyLaws
+pub mod FrontLaws
+pub mod Framing
+pub mod MessageLaws
+pub mod PacketLaws
+pub mod ScanLaws
