@@ -1,9 +1,8 @@
 -- The verdict of lists that are cut to their first tokens.
-use Rattle.std.proofs.Common.{◌≡◌, ℕ, zero, suc, ◌+◌, ◌<◌, ◌≤◌, Bool, true, false, cond, min, max, List, [], ◌∷◌, ◌++◌, length, take, map, Option, Some, None, refl, ap, ap₂, sym, ◌∙◌, arith, length-take}
+use Rattle.std.proofs.Common.{◌≡◌, ℕ, zero, suc, ◌+◌, ◌<◌, ◌≤◌, Bool, true, false, cond, min, max, List, [], ◌∷◌, ◌++◌, length, take, map, Some, None, refl, ap, ap₂, sym, ◌∙◌, arith, length-take}
 use Rattle.std.proofs.lemmas.List.{length-map}
 use Rattle.std.specs.Prelude.{slice_get, nat_lt, not, ◌&&◌, ◌||◌, if◌then◌else◌}
 use Rattle.std.specs.List.{position, list_any, prefix_len}
-use Rattle.std.proofs.lemmas.Bool.Decides.{nat_tests}
 use Rattle.rd_base.specs.Token.{Token}
 use Rattle.rd_base.specs.Verdicts.{verdict, verdict_from, fault, fault_or, masked_fault, plain_fault, or_fault, least_disagrees, masked_below, is_masked, is_soft, is_long, one_alone, same, token_at, in_list, longest, is_agreed, mask_of}
 use Rattle.rd_base.specs.declared.values.MaskLimits.{MaskLimits}

@@ -1,6 +1,6 @@
 -- Links that fail, and stops, one happening further.
-use Rattle.std.proofs.Common.{◌≡◌, ℕ, zero, suc, ◌+◌, ◌≤◌, ◌<◌, Bool, true, false, List, [], ◌∷◌, ◌++◌, Option, Some, None, refl, sym, ap, ap₂, ◌∙◌, arith, cond, eqb, add-one}
-use Rattle.std.specs.Prelude.{find, ◌||◌, ◌==◌, nat_le, nat_lt, option_map}
+use Rattle.std.proofs.Common.{◌≡◌, ℕ, zero, suc, ◌+◌, Bool, true, false, List, [], ◌∷◌, ◌++◌, Option, Some, None, refl, sym, ap, ap₂, ◌∙◌, arith, cond}
+use Rattle.std.specs.Prelude.{find, ◌||◌, ◌==◌, nat_le, nat_lt}
 use Rattle.std.specs.Option.{option_or}
 use Rattle.rd_core.specs.Faults.{failing, fault_of, fault_by}
 use Rattle.rd_base.specs.declared.values.Ending.TheVariants.{LinkFault}

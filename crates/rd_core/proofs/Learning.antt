@@ -1,8 +1,8 @@
 -- One row after another is learnt.
-use Rattle.std.proofs.Common.{◌≡◌, ℕ, zero, suc, ◌+◌, ◌<◌, ◌≤◌, min, Bool, true, false, not, cond, List, [], ◌∷◌, ◌++◌, length, take, drop, refl, ap, ap₂, sym, ◌∙◌, arith, append_assoc, append-nil, length-append, length-take}
-use Rattle.std.specs.Prelude.{filter, slice_get, Some}
-use Rattle.std.specs.List.{flat_map, All}
-use Rattle.std.proofs.lemmas.List.{take_all, take_more, take-append-le}
+use Rattle.std.proofs.Common.{◌≡◌, ℕ, zero, suc, ◌+◌, ◌<◌, ◌≤◌, true, false, not, cond, List, [], ◌∷◌, ◌++◌, length, take, refl, ap, sym, ◌∙◌, arith, append-nil, length-append, length-take}
+use Rattle.std.specs.Prelude.{filter}
+use Rattle.std.specs.List.{All}
+use Rattle.std.proofs.lemmas.List.{take_all, take-append-le}
 use Rattle.std.proofs.lemmas.List.Elements.{filter-append, All-same, All-append, All-nil, All-cons, All-weaker}
 use Rattle.std.proofs.lemmas.Grind.{flat_map-append}
 use Rattle.rd_base.specs.Words.{below}
@@ -59,6 +59,6 @@ pub sends_below : (n : ℕ) (f : ℕ → List ℕ) → All (λ (s : Send). s.lin
 sends_below zero f = All-nil (λ (s : Send). s.link.0 < 0)
 sends_below (suc n) f =
     All-same (λ (s : Send). s.link.0 < suc n) (sends_to (suc n) f) (sends_to n f ++ send_of n (f n)) (sends_to-more n f)
-      (All-append (λ (s : Send). s.link.0 < suc n) (sends_to n f) (send_of n (f n))
-        (All-weaker (λ (s : Send). s.link.0 < n) (λ (s : Send). s.link.0 < suc n) (λ s lt. omega arith) (sends_to n f) (sends_below n f))
-        (one_link (suc n) n (f n) (omega arith)))
+    (All-append (λ (s : Send). s.link.0 < suc n) (sends_to n f) (send_of n (f n))
+    (All-weaker (λ (s : Send). s.link.0 < n) (λ (s : Send). s.link.0 < suc n) (λ s lt. omega arith) (sends_to n f) (sends_below n f))
+    (one_link (suc n) n (f n) (omega arith)))

@@ -1,11 +1,10 @@
 -- What a step works out, from what its parts answer.
-use Rattle.std.proofs.Common.{◌≡◌, ℕ, zero, suc, ◌+◌, ◌-◌, ◌<◌, ◌≤◌, Bool, true, false, cond, not, List, [], ◌∷◌, ◌++◌, length, map, max, Option, Some, None, refl, sym, ap, ap₂, subst, ◌∙◌, arith}
+use Rattle.std.proofs.Common.{◌≡◌, ℕ, ◌+◌, ◌<◌, ◌≤◌, Bool, true, false, cond, not, List, [], ◌∷◌, ◌++◌, length, max, Option, Some, None, refl, sym, ap, ap₂, subst, ◌∙◌, arith}
 use Rattle.std.specs.Prelude.{is_some, option_map, slice_index_or, find, nat_lt, nat_le, ◌||◌, ◌&&◌, ◌==◌}
 use Rattle.std.specs.List.{All}
 use Rattle.std.proofs.lemmas.Bool.{and_parts}
 use Rattle.std.proofs.lemmas.Bool.Decides.{nat_tests}
 use Rattle.std.proofs.lemmas.List.Elements.{All-nil, All-cons}
-use Rattle.rd_base.specs.declared.values.Link.{Link}
 use Rattle.rd_base.specs.declared.values.Limits.{Limits}
 use Rattle.rd_base.specs.declared.values.Side.{Side}
 use Rattle.rd_base.specs.declared.values.Side.TheVariants.{Incoming, Outgoing}
@@ -13,27 +12,23 @@ use Rattle.rd_base.specs.declared.values.What.{What}
 use Rattle.rd_base.specs.declared.values.What.TheVariants.{Piece, End, ReadFail, WriteFail, Timer, Stop}
 use Rattle.rd_base.specs.declared.values.Ending.{Ending}
 use Rattle.rd_base.specs.declared.values.Ending.TheVariants as ending
-use Rattle.rd_base.specs.declared.sends.Send.{Send}
-use Rattle.rd_base.specs.Sent.{sends_to}
-use Rattle.rd_base.specs.History.{History, Entry, Row, is_timer, is_well_formed, may_follow, is_over, piece_of}
+use Rattle.rd_base.specs.History.{History, Entry, Row, is_well_formed, may_follow, is_over, piece_of}
 use Rattle.rd_dialect.specs.Grammar.{Grammar}
 use Rattle.rd_dialect.specs.declared.due.Due.{Due}
 use Rattle.rd_rules.specs.Exchange as rule
 use Rattle.rd_rules.specs.Exchange.{Rules, reading, read, scan_open}
 use Rattle.rd_rules.specs.Given.{learnt}
-use Rattle.rd_rules.specs.Step.{grow_front_by, given_now}
-use Rattle.rd_rules.specs.Trouble.{Now, now_of, trouble_of, or_else, full_log_at, malformed, too_big, unsupported, disagreed, end_trouble, scan_trouble, big_among, is_big, least_open, open_asking, is_too_big, link_of, due_of, by_links}
+use Rattle.rd_rules.specs.Trouble.{Now, now_of, trouble_of, or_else, full_log_at, malformed, too_big, unsupported, disagreed, end_trouble, scan_trouble, big_among, is_big, open_asking, is_too_big, link_of, due_of, by_links}
 use Rattle.rd_rules.proofs.Streams.{follows_well-append}
 use Rattle.rd_core.specs.declared.setup.Setup.{Setup}
 use Rattle.rd_core.specs.declared.stage.Stage.{Stage}
 use Rattle.rd_core.specs.declared.clock.Clock.{Clock}
 use Rattle.rd_core.specs.Room.{HasRoom}
-use Rattle.rd_core.specs.Seen.{seen_front, seen_request}
+use Rattle.rd_core.specs.Seen.{seen_request}
 use Rattle.rd_core.specs.Stages.{seen_stage}
 use Rattle.rd_core.specs.Clocks.{standing}
-use Rattle.rd_core.specs.Faults.{fault_by}
 use Rattle.rd_core.specs.Kept.{Fits, HasMore, is_oversized}
-use Rattle.rd_core.specs.Standing.{Standing, next_reading, now_from, now_after, wait_at, began_at, standing_by, standing_after, late_at, ending_at, Goes}
+use Rattle.rd_core.specs.Standing.{next_reading, now_from, now_after, began_at, standing_by, standing_after}
 
 pub is_some-map : {A B : Type 0} (f : A → B) (o : Option A) → is_some (option_map f o) ≡ is_some o
 is_some-map f None = refl
@@ -63,10 +58,11 @@ all_small g most is_due due (o ∷ os) e = go (λ q. all_small g most is_due due
   where
     rest : Option rule.Open
     rest = find (is_big g most is_due due) os
+
     go : (option_map (λ o. ending.TooBig (link_of o.link)) rest ≡ None → All (Fits most) os) → (b : Bool) → is_big g most is_due due o ≡ b → option_map (λ o. ending.TooBig (link_of o.link)) (cond b (Some o) rest) ≡ None → All (Fits most) (o ∷ os)
     go ih true is q = cc
     go ih false is q =
-      All-cons (Fits most) o os (le_of most (length o.bytes) (either_false (nat_lt most (length o.bytes)) (is_due && is_too_big (scan_open g due o)) is)) (ih q)
+        All-cons (Fits most) o os (le_of most (length o.bytes) (either_false (nat_lt most (length o.bytes)) (is_due && is_too_big (scan_open g due o)) is)) (ih q)
 
 pub fits : (r : Rules) (stage : Stage) → r.side ≡ Incoming → trouble_of r (seen_stage stage []) ≡ None
     → All (Fits r.limits.unit_max) stage.left.asking.items × All (Fits r.limits.unit_max) stage.left.answering.items
@@ -78,14 +74,14 @@ fits r stage side none =
   where
     by : (s : Side) → s ≡ Incoming
         → by_links s (big_among r.grammar r.limits.unit_max (is_some (option_map seen_request stage.out)) (due_of r.grammar (seen_stage stage [])) stage.left.answering.items)
-            (big_among r.grammar r.limits.unit_max (not (is_some (option_map seen_request stage.out))) (due_of r.grammar (seen_stage stage [])) (open_asking s stage.left.asking.items (option_map seen_request stage.out))) ≡ None
+        (big_among r.grammar r.limits.unit_max (not (is_some (option_map seen_request stage.out))) (due_of r.grammar (seen_stage stage [])) (open_asking s stage.left.asking.items (option_map seen_request stage.out))) ≡ None
         → All (Fits r.limits.unit_max) stage.left.asking.items × All (Fits r.limits.unit_max) stage.left.answering.items
     by Incoming is q =
-      let due = due_of r.grammar (seen_stage stage []) in
-      let out = is_some (option_map seen_request stage.out) in
-      let answering = big_among r.grammar r.limits.unit_max out due stage.left.answering.items in
-      let asking = big_among r.grammar r.limits.unit_max (not out) due stage.left.asking.items in
-      (all_small r.grammar r.limits.unit_max (not out) due stage.left.asking.items (or_right answering asking q), all_small r.grammar r.limits.unit_max out due stage.left.answering.items (or_left answering asking q))
+        let due = due_of r.grammar (seen_stage stage []) in
+        let out = is_some (option_map seen_request stage.out) in
+        let answering = big_among r.grammar r.limits.unit_max out due stage.left.answering.items in
+        let asking = big_among r.grammar r.limits.unit_max (not out) due stage.left.asking.items in
+        (all_small r.grammar r.limits.unit_max (not out) due stage.left.asking.items (or_right answering asking q), all_small r.grammar r.limits.unit_max out due stage.left.answering.items (or_left answering asking q))
     by Outgoing is q = cc
 
 not_full : (n : ℕ) → full_log_at n ≡ None → n ≤ 1048576 → n < 1048576
@@ -130,9 +126,9 @@ not_oversized n h e w over =
   where
     by : (w : What) → may_follow n h w ≡ true → is_oversized w ≡ true → ⊥
     by (Piece l bytes) may big =
-      let size = (and_parts (nat_le l.0 n && nat_le 1 (length bytes) && nat_le (length bytes) 16384) (not (is_over l.0 h)) may).0 in
-      let most = (and_parts (nat_le l.0 n && nat_le 1 (length bytes)) (nat_le (length bytes) 16384) size).1 in
-      grind (arith, nat_tests)
+        let size = (and_parts (nat_le l.0 n && nat_le 1 (length bytes) && nat_le (length bytes) 16384) (not (is_over l.0 h)) may).0 in
+        let most = (and_parts (nat_le l.0 n && nat_le 1 (length bytes)) (nat_le (length bytes) 16384) size).1 in
+        grind (arith, nat_tests)
     by (End l) may big = cc
     by (ReadFail l) may big = cc
     by (WriteFail l) may big = cc

@@ -7,7 +7,7 @@ use Rattle.rd_base.specs.History.{Row}
 use Rattle.rd_rules.specs.Exchange as rule
 use Rattle.rd_rules.specs.Exchange.{Rules, Exchange, Ask}
 use Rattle.rd_rules.specs.Given.{learnt, own_after, exchange_rows}
-use Rattle.rd_rules.specs.Trouble.{Now, ends_by}
+use Rattle.rd_rules.specs.Trouble.{ends_by}
 use Rattle.rd_core.specs.declared.exchange.DoneExchange.{DoneExchange}
 use Rattle.rd_core.specs.declared.exchange.Reading.{Reading}
 use Rattle.rd_core.specs.declared.stage.Stage.{Stage}
@@ -40,6 +40,6 @@ stage_is r count bye own rows made stage next is spare most count_is bye_is left
     let learns : learnt own rows ≡ own_after r own (map seen_exchange made.done.items) = ap (learnt own) (rows_is ∙ rows_of r made.done.items are) in
     ap₂ (λ (k : ℕ) (b : Bool). record { count = k; bye = b; own = learnt own rows; left = seen_front stage.left; out = option_map seen_request stage.out }) n bye_is
     ∙ ap₂ (λ (f : rule.Front) (o : Option Ask). record { count = count + length (map seen_exchange made.done.items); bye = ends_by r.grammar bye (map seen_exchange made.done.items); own = learnt own rows; left = f; out = o })
-      (ap seen_front left_is) (ap (option_map seen_request) out_is)
+    (ap seen_front left_is) (ap (option_map seen_request) out_is)
     ∙ ap (λ (o : List Row). record { count = count + length (map seen_exchange made.done.items); bye = ends_by r.grammar bye (map seen_exchange made.done.items); own = o; left = seen_front made.left; out = option_map seen_request made.out }) learns
     ∙ ap (now_from r count bye own) is

@@ -1,13 +1,11 @@
 -- One exchange more is read.
-use Rattle.std.proofs.Common.{◌≡◌, ℕ, zero, suc, ◌-◌, ◌<◌, ◌≤◌, List, [], ◌∷◌, ◌++◌, map, Option, Some, None, refl, ap, ap₂, sym, ◌∙◌, arith, append_assoc, cond, Bool, true, false}
-use Rattle.std.specs.Prelude.{if◌then◌else◌}
+use Rattle.std.proofs.Common.{◌≡◌, ℕ, zero, suc, ◌-◌, ◌<◌, List, [], ◌∷◌, ◌++◌, map, Some, None, refl, ap, ap₂, sym, ◌∙◌, arith, append_assoc, cond, Bool, true, false}
 use Rattle.std.proofs.lemmas.List.{map-append}
 use Rattle.rd_base.specs.declared.values.MaskLimits.{MaskLimits}
-use Rattle.rd_base.specs.History.{Row}
 use Rattle.rd_dialect.specs.Grammar.{Grammar}
 use Rattle.rd_dialect.specs.Due.{reply_due}
-use Rattle.rd_rules.specs.Exchange.{Rules, Front, Ask, Exchange, Reading, LinkUnit, read, asked, answered, ask_at, replies_at, agreed_replies, after, with_first, note, units, empty_unit, token_lists, if_agreed, agree}
-use Rattle.rd_rules.specs.Given.{exchange_rows, reply_lists, learnt_rows, learns_on}
+use Rattle.rd_rules.specs.Exchange.{Rules, Front, Ask, Exchange, Reading, LinkUnit, read, asked, answered, ask_at, replies_at, after, with_first, note, token_lists}
+use Rattle.rd_rules.specs.Given.{exchange_rows, learnt_rows, learns_on}
 use Rattle.rd_rules.specs.Step.{with_done}
 use Rattle.rd_core.specs.declared.exchange.DoneExchange.{DoneExchange}
 use Rattle.rd_core.specs.Seen.{seen_exchange, rows_are}

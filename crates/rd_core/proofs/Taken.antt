@@ -1,7 +1,6 @@
 -- One step of a session, over histories.
-use Rattle.std.proofs.Common.{◌≡◌, ℕ, zero, suc, ◌+◌, ◌-◌, ◌≤◌, Bool, true, false, List, [], ◌∷◌, ◌++◌, length, take, drop, map, max, min, Option, Some, None, refl, sym, ap, ap₂, subst, ◌∙◌, arith, length-append, cond, append-nil, append_assoc, Result, Ok, Err}
-use Rattle.std.specs.Prelude.{is_some, option_and_then, IfOk, OnOk, unwrap_or, ◌||◌, ◌&&◌, nat_le, ◌^◌, fold}
-use Rattle.std.specs.List.{flat_map}
+use Rattle.std.proofs.Common.{◌≡◌, ℕ, zero, suc, ◌+◌, ◌-◌, Bool, true, false, List, [], ◌∷◌, ◌++◌, length, drop, map, max, min, Option, Some, None, refl, sym, ap, ap₂, ◌∙◌, length-append, cond, append-nil, Result, Ok, Err}
+use Rattle.std.specs.Prelude.{is_some, option_and_then, IfOk, OnOk, ◌||◌, ◌&&◌, nat_le, ◌^◌}
 use Rattle.std.proofs.lemmas.List.{drop_at}
 use Rattle.rd_base.specs.declared.values.What.{What}
 use Rattle.rd_base.specs.declared.values.What.TheVariants.{Piece, End, ReadFail, WriteFail, Timer, Stop}
@@ -11,16 +10,15 @@ use Rattle.rd_base.specs.declared.bytes.NoMemory.{NoMemory}
 use Rattle.rd_base.specs.declared.sends.Send.{Send}
 use Rattle.rd_base.specs.Sent.{send_of, sends_to}
 use Rattle.rd_base.specs.Words.{last_of_list, without_last}
-use Rattle.rd_base.specs.History.{History, Entry, shortest_from, is_well_formed, piece_of, ends, stream, ended, moment, is_timer, may_follow, follows_well}
+use Rattle.rd_base.specs.History.{History, Entry, is_well_formed, piece_of, ends, moment, is_timer, may_follow, follows_well}
 use Rattle.rd_dialect.specs.Grammar.{Grammar}
 use Rattle.rd_dialect.specs.Laws.{Lawful}
-use Rattle.rd_rules.specs.Exchange.{Rules, Ask, Exchange, Front, Open, Reading, reading, read, note}
+use Rattle.rd_rules.specs.Exchange.{Rules, Exchange, Front, Open, Reading, reading, read, note}
 use Rattle.rd_rules.specs.Given.{given, own_after}
 use Rattle.rd_rules.specs.Step.{grow, grow_by, grow_front, grow_front_by, with_done, given_now}
-use Rattle.rd_rules.specs.Wait.{Wait, wait, wait_of, same_wait, began_by, due_moment, limit_of}
+use Rattle.rd_rules.specs.Wait.{Wait, wait, same_wait, began_by, due_moment, limit_of}
 use Rattle.rd_rules.specs.Trouble.{Now, now_of, ends_by, trouble_of, trouble, or_else, unsolicited, unsolicited_at, unsolicited_by, first_trouble, link_fault, stopped, late, is_timer_entry, full_log_at}
-use Rattle.rd_rules.specs.Sent.{stop, final, acted, acted_of, sent, sent_past, step_sends}
-use Rattle.rd_rules.proofs.Streams.{follows_well-append}
+use Rattle.rd_rules.specs.Sent.{stop, final, acted, acted_of, sent, sent_past}
 use Rattle.rd_rules.proofs.Steps.{reading-append}
 use Rattle.rd_rules.proofs.Stays.{stop-append}
 use Rattle.rd_rules.proofs.Stops.{none_so_far, test_of_shortest}
@@ -29,7 +27,7 @@ use Rattle.rd_rules.proofs.Moments.{began_next, moment_next}
 use Rattle.rd_core.proofs.Learning.{sends_to-more}
 use Rattle.rd_core.proofs.Faulty.{fault_next, no_fault, nothing_fails}
 use Rattle.rd_core.specs.Faults.{fault_by}
-use Rattle.rd_core.specs.Standing.{Standing, Seen, IsTimed, IsAt, next_reading, now_after, wait_at, began_at, standing_by, standing_after, due_at, late_at, ending_at, Goes, Steps, SendsMore}
+use Rattle.rd_core.specs.Standing.{Standing, Seen, IsTimed, IsAt, next_reading, now_after, wait_at, began_at, standing_after, due_at, late_at, ending_at, Goes, Steps, SendsMore}
 
 -- ---- the reading, one happening further
 
@@ -60,9 +58,9 @@ ends_by-append g b (x ∷ xs) ys = ends_by-append g (g.is_farewell (note g x.ask
 now_next : (r : Rules) (now next : Reading) → now_of r (with_done now.done next) ≡ now_after r (now_of r now) next
 now_next r now next =
     ap₂ (λ (n : ℕ) (f : Bool). record { count = n; bye = f; own = own_after r [] (now.done ++ next.done); left = next.left; out = next.out })
-      (length-append now.done next.done) (ends_by-append r.grammar false now.done next.done)
+    (length-append now.done next.done) (ends_by-append r.grammar false now.done next.done)
     ∙ ap (λ rows. record { count = length now.done + length next.done; bye = ends_by r.grammar (ends_by r.grammar false now.done) next.done; own = rows; left = next.left; out = next.out })
-      (own_after-append r [] now.done next.done)
+    (own_after-append r [] now.done next.done)
 
 -- ---- the ending, one happening further
 
@@ -231,12 +229,14 @@ module _ {D : Type 0} (r : Rules) (laws : Lawful r.grammar) (old : Seen D) (h : 
 
   standing_is : (new : Standing) → old.ending ≡ None → new ≡ standing_after r old.at e → (new.stage ≡ now_of r (reading r (h ++ e ∷ []))) × IsTimed r new (h ++ e ∷ [])
   standing_is new live is =
-      let stage : new.stage ≡ now_of r (reading r (h ++ e ∷ [])) = ap (λ s. s.stage) is ∙ next_stage live in
-      (stage, record {
-        count = ap (λ s. s.entries) is ∙ ap (λ n. n + 1) (at.timed live).count ∙ sym (length-append h (e ∷ []));
-        latest = ap (λ s. s.moment) is ∙ next_moment live;
-        since = ap (λ s. s.began) is ∙ next_began (now_after r old.at.stage (next_reading r old.at.stage e)) live (next_stage live);
-      })
+      let stage : new.stage ≡ now_of r (reading r (h ++ e ∷ [])) = ap (λ s. s.stage) is ∙ next_stage live in (
+        stage,
+        record {
+          count = ap (λ s. s.entries) is ∙ ap (λ n. n + 1) (at.timed live).count ∙ sym (length-append h (e ∷ []));
+          latest = ap (λ s. s.moment) is ∙ next_moment live;
+          since = ap (λ s. s.began) is ∙ next_began (now_after r old.at.stage (next_reading r old.at.stage e)) live (next_stage live);
+        },
+      )
 
   late_is : (new : Standing) → new.stage ≡ now_of r (reading r (h ++ e ∷ [])) → IsTimed r new (h ++ e ∷ []) → late_at r.side r.limits (is_timer e.what) new ≡ late r (h ++ e ∷ [])
   late_is new stage timed =
@@ -337,7 +337,7 @@ start_at r s stage entries latest since end =
     record {
       stage = stage ∙ ap (λ g. now_of r (reading r g)) (sym a);
       ending = end ∙ ap (trouble_of r) stage ∙ sym (right_none (trouble_of r (now_of r (reading r []))))
-        ∙ sym (ap (λ f. or_else f (or_else (trouble_of r (now_of r (reading r []))) None)) (nothing_fails r)) ∙ sym (final_by (trouble r) [] t refl);
+          ∙ sym (ap (λ f. or_else f (or_else (trouble_of r (now_of r (reading r []))) None)) (nothing_fails r)) ∙ sym (final_by (trouble r) [] t refl);
       timed = λ live. record { count = entries; latest = latest; since = since };
     }
   where

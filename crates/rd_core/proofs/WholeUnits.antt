@@ -1,19 +1,16 @@
 -- Units that were read are whole.
-use Rattle.std.proofs.Common.{◌≡◌, ℕ, zero, suc, ◌<◌, ◌≤◌, Bool, true, false, cond, List, [], ◌∷◌, length, take, map, Option, Some, None, refl, ap, sym, subst, ◌∙◌, arith}
+use Rattle.std.proofs.Common.{◌≡◌, ℕ, suc, ◌≤◌, true, List, [], ◌∷◌, length, take, map, Option, Some, None, refl, ap, sym, subst, ◌∙◌, arith}
 use Rattle.std.specs.Prelude.{option_map, unwrap_or}
-use Rattle.rd_base.specs.Token.{Token}
-use Rattle.rd_base.specs.declared.values.MaskLimits.{MaskLimits}
 use Rattle.rd_base.specs.declared.values.Phase.{Phase}
 use Rattle.rd_base.specs.declared.values.Note.{Note}
 use Rattle.rd_base.specs.declared.values.Scan.{Scan}
 use Rattle.rd_base.specs.declared.values.Scan.TheVariants.{Whole, More, Bad, TooBig, Unsupported}
 use Rattle.rd_dialect.specs.declared.due.Due.{Due}
-use Rattle.rd_dialect.specs.Grammar.{Grammar, IsPart, IsRequest, IsReply, scan_of}
+use Rattle.rd_dialect.specs.Grammar.{Grammar, IsRequest, IsReply}
 use Rattle.rd_dialect.specs.Grammar.IsReply.{Scanned, Farewell}
 use Rattle.rd_dialect.specs.Laws.{Lawful}
-use Rattle.rd_dialect.specs.Due.{request_due, reply_due, scan_due, IsDue}
-use Rattle.rd_rules.specs.Exchange.{Open, LinkUnit, Ask, Front, Exchange, unit_by, each_unit, units, scan_open, first_bytes, agreed_ask, ask_at, agreed_replies, replies_at, note, empty_unit, past, others}
-use Rattle.rd_rules.proofs.Grows.{if-some}
+use Rattle.rd_dialect.specs.Due.{request_due, reply_due, IsDue}
+use Rattle.rd_rules.specs.Exchange.{Open, LinkUnit, Ask, unit_by, each_unit, units, scan_open, first_bytes, note, empty_unit, past, others}
 use Rattle.rd_core.specs.Whole.{IsAsked, IsAnswered}
 
 -- the first of the units that all begin with is whole

@@ -1,5 +1,5 @@
 -- Words for the tokens that are cut of what is due.
-use Rattle.std.specs.Prelude.{ℕ, Bool, List, [], ◌∷◌, ◌++◌, map, Option, Some, None}
+use Rattle.std.specs.Prelude.{ℕ, Bool, List, ◌++◌, map, Option, Some, None}
 use Rattle.rd_base.specs.Token.{Token}
 use Rattle.rd_dialect.specs.declared.due.Due.{Due}
 use Rattle.rd_dialect.specs.Grammar.{Grammar}

@@ -1,5 +1,5 @@
 -- How many bytes of a link may be open.
-use Rattle.std.specs.Prelude.{◌≡◌, ℕ, ◌≤◌, ◌+◌, ◌*◌, length, List}
+use Rattle.std.specs.Prelude.{ℕ, ◌≤◌, ◌+◌, ◌*◌, length}
 use Rattle.rd_base.specs.declared.values.What.{What}
 use Rattle.rd_base.specs.History.{piece_of}
 use Rattle.rd_rules.specs.Exchange as rule

@@ -1,6 +1,5 @@
 -- What the engine keeps, as the definitions see it.
-use Rattle.std.specs.Prelude.{◌≡◌, ℕ, Bool, List, [], ◌∷◌, map, Option, option_map}
-use Rattle.rd_base.specs.History.{Row}
+use Rattle.std.specs.Prelude.{◌≡◌, List, map, option_map}
 use Rattle.rd_dialect.specs.Grammar.{Grammar}
 use Rattle.rd_rules.specs.Exchange as rule
 use Rattle.rd_rules.specs.Given.{exchange_rows}

@@ -1,21 +1,18 @@
 -- What a session keeps, and one step of it.
-use Rattle.std.specs.Prelude.{◌≡◌, ℕ, ◌+◌, ◌-◌, ◌^◌, ◌≤◌, ◌<◌, ◌&&◌, Bool, true, List, [], ◌∷◌, ◌++◌, length, min, max, nat_le, Option, Some, None, is_some, if◌then◌else◌}
-use Rattle.std.specs.List.{All}
+use Rattle.std.specs.Prelude.{◌≡◌, ℕ, ◌+◌, ◌-◌, ◌^◌, ◌&&◌, Bool, List, [], ◌∷◌, ◌++◌, length, min, max, nat_le, Option, Some, None, is_some, if◌then◌else◌}
 use Rattle.rd_base.specs.declared.values.Side.{Side}
 use Rattle.rd_base.specs.declared.values.Side.TheVariants.{Incoming}
 use Rattle.rd_base.specs.declared.values.Ending.{Ending}
 use Rattle.rd_base.specs.declared.values.Ending.TheVariants.{Late}
 use Rattle.rd_base.specs.declared.values.Limits.{Limits}
 use Rattle.rd_base.specs.declared.sends.Send.{Send}
-use Rattle.rd_base.specs.Limits.{AreLimits}
 use Rattle.rd_base.specs.History.{History, Entry, Row, is_timer, moment}
 use Rattle.rd_base.specs.Sent.{sends_to}
-use Rattle.rd_dialect.specs.Grammar.{Grammar}
 use Rattle.rd_rules.specs.Exchange as rule
 use Rattle.rd_rules.specs.Exchange.{Rules, reading, read}
 use Rattle.rd_rules.specs.Given.{own_after}
 use Rattle.rd_rules.specs.Step.{grow_front_by, given_now}
-use Rattle.rd_rules.specs.Wait.{Wait, wait, wait_of, which_on, same_wait, some_open, limit_of, began_by}
+use Rattle.rd_rules.specs.Wait.{Wait, wait, which_on, same_wait, some_open, limit_of, began_by}
 use Rattle.rd_rules.specs.Trouble.{Now, now_of, ends_by, trouble_of, unsolicited_by, or_else, full_log_at}
 use Rattle.rd_rules.specs.Sent.{acted, final, sent, sent_past, step_sends}
 use Rattle.rd_core.specs.declared.setup.Setup.{Setup}

@@ -100,7 +100,14 @@ pub(crate) fn unsolicited<D: Dialect>(
         return Ok(None);
     }
     let answering = stage.left.answering.as_slice();
-    unsolicited_among(alloc, dialect, &stage.out, *link, bytes.as_slice(), answering)
+    unsolicited_among(
+        alloc,
+        dialect,
+        &stage.out,
+        *link,
+        bytes.as_slice(),
+        answering,
+    )
 }
 
 fn failing(what: &What) -> Option<Link>

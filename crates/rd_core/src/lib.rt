@@ -3,17 +3,17 @@
 
 mod clock;
 mod exchange;
+mod faults;
 mod judging;
 mod opens;
 mod plan;
-mod faults;
 mod read;
 mod sending;
+mod session;
+mod setup;
 mod stage;
 mod start;
 mod trouble;
-mod session;
-mod setup;
 mod unit;
 mod waits;
 

@@ -322,7 +322,14 @@ fn disagreed<D: Dialect>(
 {
     let due = due_of(dialect, stage);
     let exchange = stage.count + 1;
-    early_fault(alloc, dialect, setup.limits.mask, exchange, due, due_opens(stage))
+    early_fault(
+        alloc,
+        dialect,
+        setup.limits.mask,
+        exchange,
+        due,
+        due_opens(stage),
+    )
 }
 
 /// The first trouble of where a session stands.

@@ -30,7 +30,11 @@ fn which_on(side: Side, out: bool, begun: bool) -> Which
 pub(crate) fn which_at(side: Side, stage: &Stage) -> Which
     ensures { result ≡ (wait_at side (seen_stage stage.now [])).which }
 {
-    which_on(side, stage.out.is_some(), some_open(stage.left.asking.as_slice()))
+    which_on(
+        side,
+        stage.out.is_some(),
+        some_open(stage.left.asking.as_slice()),
+    )
 }
 
 fn is_same_which(one: Which, other: Which) -> bool

@@ -1,9 +1,8 @@
 -- An incoming session, seen as the engine's.
-use Rattle.std.proofs.Common.{◌≡◌, refl, sym, ap, subst, ◌∙◌, List, ◌++◌, ◌∷◌, [], true, ℕ, Result, Ok, Err}
+use Rattle.std.proofs.Common.{◌≡◌, sym, ap, subst, ◌∙◌, List, ◌++◌, ◌∷◌, [], true, ℕ, Result, Ok, Err}
 use Rattle.std.specs.Prelude.{IfOk, OnOk}
 use Rattle.rd_base.specs.History.{History, Entry, is_well_formed}
 use Rattle.rd_base.specs.declared.values.Side.{Side}
-use Rattle.rd_base.specs.declared.values.Side.TheVariants.{Incoming}
 use Rattle.rd_base.specs.declared.bytes.NoMemory.{NoMemory}
 use Rattle.rd_base.specs.declared.sends.Send.{Send}
 use Rattle.rd_dialect.specs.Grammar.{Grammar}
@@ -21,7 +20,7 @@ module _ {D : Type 0} (g : D → Grammar) (s : core.Seen D) (incoming : IsIncomi
   at_here : (h : History) → IsAt (session_rules (g s.dialect) (seen_in s)) (seen_in s) h → core.IsAt (rules_of (g s.dialect) s.setup) s h
   at_here h at =
       subst (λ (side : Side). core.IsAt (record { side = side; grammar = g s.dialect; limits = s.setup.limits })
-          (record { dialect = s.dialect; setup = record { side = side; limits = s.setup.limits }; at = s.at; ending = s.ending }) h) (sym incoming) at
+      (record { dialect = s.dialect; setup = record { side = side; limits = s.setup.limits }; at = s.at; ending = s.ending }) h) (sym incoming) at
 
   pub rules_in : (now : Seen D) → seen_in s ≡ now → session_rules (g now.dialect) now ≡ rules_of (g s.dialect) s.setup
   rules_in now is = sym (ap (λ (v : Seen D). session_rules (g v.dialect) v) is) ∙ rules_here

@@ -62,7 +62,7 @@ impl<D: Dialect> InSession<D> {
         ensures adds { OnOk result ((h : History) → is_well_formed self.old.limits.copies (h ++ entry_of happening.now told.now ∷ []) ≡ true
             → IsAt (session_rules (D.grammar self.old.dialect) self.old) self.old h
             → (l : ℕ) → sent (session_rules (D.grammar self.old.dialect) self.old) l (h ++ entry_of happening.now told.now ∷ [])
-                ≡ sent (session_rules (D.grammar self.old.dialect) self.old) l h ++ sent_past (session_rules (D.grammar self.old.dialect) self.old) h (h ++ entry_of happening.now told.now ∷ []) l) }
+            ≡ sent (session_rules (D.grammar self.old.dialect) self.old) l h ++ sent_past (session_rules (D.grammar self.old.dialect) self.old) h (h ++ entry_of happening.now told.now ∷ []) l) }
         ensures over { OnOk result (is_some self.old.ending ≡ true → self.new ≡ self.old) }
         ensures err { OnErr result (self.new ≡ self.old) }
     {

@@ -1,5 +1,5 @@
 -- What one more entry gives each link.
-use Rattle.std.proofs.Common.{◌≡◌, ℕ, zero, suc, ◌+◌, ◌≤◌, ◌<◌, Bool, true, false, List, [], ◌∷◌, ◌++◌, length, drop, map, Option, Some, None, refl, sym, ap, ap₂, subst, ◌∙◌, arith, cond, append-nil, append_assoc, length-append}
+use Rattle.std.proofs.Common.{◌≡◌, ℕ, suc, ◌+◌, ◌≤◌, ◌<◌, Bool, true, false, List, [], ◌∷◌, ◌++◌, length, drop, map, Option, Some, None, refl, sym, ap, ap₂, subst, ◌∙◌, arith, cond, append-nil, append_assoc, length-append}
 use Rattle.std.specs.Prelude.{is_some, fold}
 use Rattle.std.specs.List.{flat_map}
 use Rattle.std.proofs.lemmas.Grind.{flat_map-append}
@@ -10,7 +10,7 @@ use Rattle.rd_rules.specs.Exchange.{Rules, Ask, Exchange, Reading, reading, rele
 use Rattle.rd_rules.specs.Given.{Release, releases, last_release, learnt, own_after, exchange_rows, released_count, told_rows, forwarded, forwarded_from, handed_back, is_asker, given, given_of}
 use Rattle.rd_rules.specs.Step.{with_done, sent_before, given_now}
 use Rattle.rd_rules.proofs.Grows.{Grown}
-use Rattle.rd_rules.proofs.Streams.{reading-grown, follows_well-append}
+use Rattle.rd_rules.proofs.Streams.{reading-grown}
 use Rattle.rd_rules.proofs.Telling.{told_before, told_now}
 
 fold-append : {A B : Type 0} (f : B → A → B) (b : B) (xs ys : List A) → fold f b (xs ++ ys) ≡ fold f (fold f b xs) ys
@@ -28,8 +28,8 @@ releases-append : (r : Rules) (own : List Row) (xs ys : List Exchange) (out : Op
 releases-append r own [] ys out = refl
 releases-append r own (x ∷ xs) ys out =
     ap (λ rels. record { ask = x.ask; own = own } ∷ rels)
-      (releases-append r (learnt own (exchange_rows r x)) xs ys out
-      ∙ ap (λ rows. releases r (learnt own (exchange_rows r x)) xs None ++ releases r rows ys out) (sym (own_after-cons r own x xs)))
+    (releases-append r (learnt own (exchange_rows r x)) xs ys out
+    ∙ ap (λ rows. releases r (learnt own (exchange_rows r x)) xs None ++ releases r rows ys out) (sym (own_after-cons r own x xs)))
 
 releases-out : (r : Rules) (own : List Row) (xs : List Exchange) (out : Option Ask) → releases r own xs out ≡ releases r own xs None ++ last_release (own_after r own xs) out
 releases-out r own xs out = ap (λ ys. releases r own ys out) (sym (append-nil xs)) ∙ releases-append r own xs [] out
@@ -95,7 +95,7 @@ forwarded_from-same : (r : Rules) (l : ℕ) (told other : ℕ → List Row) (j :
 forwarded_from-same r l told other j [] same = refl
 forwarded_from-same r l told other j (x ∷ xs) same =
     ap₂ (λ rows bs. forwarded r l rows x ++ bs) (same j (omega arith) (omega arith))
-      (forwarded_from-same r l told other (suc j) xs (λ k low high. same k (omega arith) (omega arith)))
+    (forwarded_from-same r l told other (suc j) xs (λ k low high. same k (omega arith) (omega arith)))
 
 forwarded_from-one : (r : Rules) (l : ℕ) (rows : List Row) (j : ℕ) (xs : List Release) → forwarded_from r l (λ k. rows) j xs ≡ flat_map (forwarded r l rows) xs
 forwarded_from-one r l rows j [] = refl
@@ -118,13 +118,13 @@ given_next r laws l h e next before w is =
     let fresh = drop (sent_before (is_some now.out)) (releases r (own_after r [] now.done) next.done next.out) in
     let count : length old ≡ released_count r h = length-releases r [] now in
     let all : length (old ++ fresh) ≡ released_count r (h ++ e ∷ []) =
-      ap length (sym (releases-next r now next grown)) ∙ length-releases r [] (with_done now.done next) ∙ ap (λ x. length (released x)) (sym is) in
+    ap length (sym (releases-next r now next grown)) ∙ length-releases r [] (with_done now.done next) ∙ ap (λ x. length (released x)) (sym is) in
     let requests : forwarded_from r l told 1 (releases r [] (now.done ++ next.done) next.out) ≡ forwarded_from r l (told_rows r h) 1 old ++ flat_map (forwarded r l e.told) fresh =
-      ap (forwarded_from r l told 1) (releases-next r now next grown)
-      ∙ forwarded_from-append r l told 1 old fresh
-      ∙ ap₂ (λ us vs. us ++ vs)
-        (forwarded_from-same r l told (told_rows r h) 1 old (λ k low high. told_before r h e k (omega (arith, count))))
-        (forwarded_from-same r l told (λ k. e.told) (length old + 1) fresh (λ k low high. told_now r laws h e k before (omega (arith, count)) (omega (arith, all, length-append old fresh)))
-        ∙ forwarded_from-one r l e.told (length old + 1) fresh) in
+    ap (forwarded_from r l told 1) (releases-next r now next grown)
+    ∙ forwarded_from-append r l told 1 old fresh
+    ∙ ap₂ (λ us vs. us ++ vs)
+    (forwarded_from-same r l told (told_rows r h) 1 old (λ k low high. told_before r h e k (omega (arith, count))))
+    (forwarded_from-same r l told (λ k. e.told) (length old + 1) fresh (λ k low high. told_now r laws h e k before (omega (arith, count)) (omega (arith, all, length-append old fresh)))
+    ∙ forwarded_from-one r l e.told (length old + 1) fresh) in
     ap (λ x. given_of r l told x.done 1 (releases r [] x.done x.out)) is
     ∙ given_both r l (is_asker r l) now.done next.done (forwarded_from r l (told_rows r h) 1 old) (flat_map (forwarded r l e.told) fresh) (forwarded_from r l told 1 (releases r [] (now.done ++ next.done) next.out)) requests

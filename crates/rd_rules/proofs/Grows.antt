@@ -1,5 +1,5 @@
 -- What is read of a history is read of each that goes on from it.
-use Rattle.std.specs.Prelude.{ℕ, zero, suc, ◌≡◌, ◌≤◌, ◌<◌, ◌+◌, Bool, true, false, cond, List, [], ◌∷◌, ◌++◌, length, take, drop, map, Option, Some, None, is_some, option_map, unwrap_or, if◌then◌else◌}
+use Rattle.std.specs.Prelude.{ℕ, zero, suc, ◌≡◌, ◌≤◌, Bool, true, false, cond, List, [], ◌∷◌, ◌++◌, length, take, drop, map, Option, Some, None, option_map, unwrap_or}
 use Rattle.rd_rules.specs.Exchange.{LinkUnit}
 use Rattle.rd_rules.specs.Exchange.{Open}
 use Rattle.rd_dialect.specs.Due.{request_due, reply_due}
@@ -7,11 +7,11 @@ use Rattle.rd_dialect.specs.declared.due.Due.{Due}
 use Rattle.rd_base.specs.declared.values.Scan.TheVariants.{Whole, More, Bad, TooBig, Unsupported}
 use Rattle.rd_base.specs.declared.values.Scan.{Scan}
 use Rattle.rd_base.specs.declared.values.MaskLimits.{MaskLimits}
-use Rattle.std.proofs.Common.{refl, sym, ap, subst, ◌∙◌, append_assoc, append-nil, length-take-le, length-take, arith, true≢false, min}
+use Rattle.std.proofs.Common.{refl, sym, ap, subst, ◌∙◌, append-nil, length-take-le}
 use Rattle.std.proofs.lemmas.List.{take-append-le, drop-append-le}
 use Rattle.rd_dialect.specs.Grammar.{Grammar}
 use Rattle.rd_dialect.specs.Laws.{Lawful}
-use Rattle.rd_rules.specs.Exchange.{Ask, Exchange, Front, Reading, unit_by, each_unit, units, scan_open, past, agreed_ask, ask_at, agreed_replies, replies_at, empty_unit, after, note, first_bytes, read, asked, answered, nothing_out, with_first, released, if_agreed}
+use Rattle.rd_rules.specs.Exchange.{Ask, Exchange, Front, Reading, unit_by, each_unit, units, scan_open, past, agreed_ask, ask_at, agreed_replies, replies_at, empty_unit, after, note, read, asked, answered, nothing_out, with_first, released}
 
 -- ys begins with xs
 abbrev pub IsPrefixOf : {A : Type 0} → List A → List A → Type 0

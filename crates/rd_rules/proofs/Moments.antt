@@ -1,5 +1,5 @@
 -- The moment and the wait, one entry later.
-use Rattle.std.specs.Prelude.{ℕ, zero, suc, ◌≡◌, ◌≤◌, ◌<◌, ◌+◌, Bool, true, false, cond, max, fold, ◌&&◌, ◌==◌, List, [], ◌∷◌, ◌++◌, length, take, if◌then◌else◌}
+use Rattle.std.specs.Prelude.{ℕ, zero, suc, ◌≡◌, ◌≤◌, ◌<◌, ◌+◌, Bool, true, false, cond, max, fold, ◌==◌, [], ◌∷◌, ◌++◌, length, take}
 use Rattle.std.proofs.Common.{refl, sym, ap, ap₂, ◌∙◌, arith, length-append}
 use Rattle.std.proofs.lemmas.Bool.{and_parts, eqb-true}
 use Rattle.std.proofs.lemmas.List.{take-append-le}
@@ -56,27 +56,32 @@ began_by-step w h x = go (same_wait (w h) (w h')) refl
   where
     h' : History
     h' = h ++ x ∷ []
+
     n : ℕ
     n = length h
+
     long : length h' ≡ suc n
     long = length-append h (x ∷ []) ∙ (let e : n + 1 ≡ suc n = omega arith in e)
+
     at : ℕ → Bool
     at = λ i. same_wait (w (take i h')) (w h')
+
     whole : take n h' ≡ h
     whole = take-append_seam h (x ∷ [])
+
     go : (b : Bool) → same_wait (w h) (w h') ≡ b → take (least_from at (length h')) h' ≡ cond b (began_by w h) h'
     go true e =
-      let test : at n ≡ true = ap (λ g. same_wait (w g) (w h')) whole ∙ e in
-      let same : least_from at n ≡ least_from (λ i. same_wait (w (take i h)) (w h)) n =
+        let test : at n ≡ true = ap (λ g. same_wait (w g) (w h')) whole ∙ e in
+        let same : least_from at n ≡ least_from (λ i. same_wait (w (take i h)) (w h)) n =
         least_from-same at (λ i. same_wait (w (take i h)) (w h)) n
-          (λ i low. ap₂ (λ g v. same_wait (w g) v) (take-append-le i h (x ∷ []) (omega arith)) (sym (same_wait_is (w h) (w h') e))) in
-      let m : least_from at (length h') ≡ least_from (λ i. same_wait (w (take i h)) (w h)) n =
+        (λ i low. ap₂ (λ g v. same_wait (w g) v) (take-append-le i h (x ∷ []) (omega arith)) (sym (same_wait_is (w h) (w h') e))) in
+        let m : least_from at (length h') ≡ least_from (λ i. same_wait (w (take i h)) (w h)) n =
         ap (least_from at) long ∙ (ap (λ b. cond b (least_from at n) (suc n)) test ∙ same) in
-      ap (λ k. take k h') m ∙ take-append-le (least_from (λ i. same_wait (w (take i h)) (w h)) n) h (x ∷ []) (least_from-le (λ i. same_wait (w (take i h)) (w h)) n)
+        ap (λ k. take k h') m ∙ take-append-le (least_from (λ i. same_wait (w (take i h)) (w h)) n) h (x ∷ []) (least_from-le (λ i. same_wait (w (take i h)) (w h)) n)
     go false e =
-      let test : at n ≡ false = ap (λ g. same_wait (w g) (w h')) whole ∙ e in
-      ap (λ k. take k h') (ap (least_from at) long ∙ ap (λ b. cond b (least_from at n) (suc n)) test)
-      ∙ (ap (λ k. take k h') (sym long) ∙ take-length h')
+        let test : at n ≡ false = ap (λ g. same_wait (w g) (w h')) whole ∙ e in
+        ap (λ k. take k h') (ap (least_from at) long ∙ ap (λ b. cond b (least_from at n) (suc n)) test)
+        ∙ (ap (λ k. take k h') (sym long) ∙ take-length h')
 
 moment_either : (b : Bool) (f g : History) → moment (cond b f g) ≡ cond b (moment f) (moment g)
 moment_either true f g = refl

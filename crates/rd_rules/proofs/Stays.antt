@@ -1,8 +1,7 @@
 -- What a session was, it stays: endings.
-use Rattle.std.specs.Prelude.{ℕ, ◌≡◌, Bool, true, false, cond, List, [], ◌∷◌, ◌++◌, Option, Some, None, is_some, option_and_then}
-use Rattle.rd_base.specs.History.{Entry}
-use Rattle.std.proofs.Common.{refl, sym, ap, ◌∙◌, append_assoc, append-nil}
-use Rattle.rd_base.specs.History.{History, shortest, shortest_from}
+use Rattle.std.specs.Prelude.{◌≡◌, Bool, true, false, cond, [], ◌∷◌, ◌++◌, Option, Some, None, is_some, option_and_then}
+use Rattle.std.proofs.Common.{refl, ap, ◌∙◌}
+use Rattle.rd_base.specs.History.{History, shortest_from}
 use Rattle.rd_rules.specs.Exchange.{Rules}
 use Rattle.rd_rules.specs.Trouble.{trouble}
 use Rattle.rd_base.specs.declared.values.Ending.{Ending}

@@ -1,22 +1,20 @@
 -- What is read of a history, some happenings later.
-use Rattle.std.specs.Prelude.{ℕ, zero, suc, ◌≡◌, ◌≤◌, ◌+◌, ◌-◌, Bool, true, false, cond, ◌||◌, List, [], ◌∷◌, ◌++◌, length, take, drop, map, Option, Some, None, unwrap_or, option_map}
+use Rattle.std.specs.Prelude.{ℕ, zero, suc, ◌≡◌, ◌≤◌, ◌-◌, Bool, true, false, ◌||◌, List, [], ◌∷◌, ◌++◌, length, take, drop, map, Option, Some, None, unwrap_or, option_map}
 use Rattle.rd_rules.specs.Exchange.{LinkUnit}
 use Rattle.rd_rules.specs.Exchange.{Open}
 use Rattle.rd_dialect.specs.Due.{request_due, reply_due}
 use Rattle.rd_dialect.specs.declared.due.Due.{Due}
 use Rattle.rd_base.specs.declared.values.Scan.TheVariants.{Whole, More, Bad, TooBig, Unsupported}
 use Rattle.rd_base.specs.declared.values.Scan.{Scan}
-use Rattle.rd_base.specs.declared.values.What.{What}
-use Rattle.rd_base.specs.History.{Entry}
 use Rattle.rd_base.specs.declared.values.MaskLimits.{MaskLimits}
-use Rattle.std.proofs.Common.{refl, sym, ap, ap₂, subst, ◌∙◌, append_assoc, append-nil, arith, length-take-le}
+use Rattle.std.proofs.Common.{refl, sym, ap, ap₂, subst, ◌∙◌, append-nil, arith, length-take-le}
 use Rattle.std.proofs.lemmas.List.{take-append-le, drop-append-le}
 use Rattle.std.proofs.lemmas.Grind.{flat_map-append}
 use Rattle.std.proofs.lemmas.List.Folds.{list_any-append}
 use Rattle.rd_base.specs.History.{History, stream, ended, is_well_formed, piece_of, ends}
 use Rattle.rd_dialect.specs.Grammar.{Grammar}
 use Rattle.rd_dialect.specs.Laws.{Lawful}
-use Rattle.rd_rules.specs.Exchange.{Rules, Ask, Exchange, Front, Reading, reading, read, asked, answered, nothing_out, with_first, ask_at, agreed_ask, replies_at, agreed_replies, after, start_front, past, units, unit_by, each_unit, scan_open, note, empty_unit, open_of, askers, answerers}
+use Rattle.rd_rules.specs.Exchange.{Rules, Ask, Exchange, Front, Reading, reading, read, asked, answered, with_first, ask_at, agreed_ask, replies_at, agreed_replies, after, start_front, past, units, unit_by, each_unit, scan_open, note, empty_unit, open_of, askers, answerers}
 use Rattle.rd_rules.specs.Step.{grow, grow_front, with_done, read_further}
 use Rattle.rd_rules.proofs.Grows.{if-some}
 use Rattle.rd_rules.proofs.Streams.{silent, follows_well-append}

@@ -1,20 +1,14 @@
 -- The streams of a history, and of one that goes on from it.
-use Rattle.std.specs.Prelude.{ℕ, zero, suc, ◌≡◌, ◌≤◌, ◌+◌, Bool, true, false, cond, not, ◌&&◌, ◌||◌, ◌==◌, List, [], ◌∷◌, ◌++◌, length, map, Option, Some, None, nat_le}
-use Rattle.rd_rules.specs.Exchange.{Open}
-use Rattle.rd_base.specs.declared.values.Side.{Side}
+use Rattle.std.specs.Prelude.{ℕ, ◌≡◌, Bool, true, false, not, ◌||◌, ◌==◌, List, [], ◌∷◌, ◌++◌, map}
 use Rattle.rd_base.specs.declared.values.What.TheVariants.{Piece, End, ReadFail, WriteFail, Timer, Stop}
 use Rattle.rd_base.specs.declared.values.What.{What}
-use Rattle.rd_base.specs.History.{Entry}
-use Rattle.std.specs.List.{list_any, flat_map}
-use Rattle.std.proofs.Common.{refl, sym, ap, subst, ◌∙◌, append_assoc, append-nil, arith, true≢false}
+use Rattle.std.proofs.Common.{refl, sym, ap, ◌∙◌, append_assoc, append-nil, true≢false}
 use Rattle.std.proofs.lemmas.Bool.{and_parts, not-true, eqb-true}
 use Rattle.std.proofs.lemmas.Grind.{flat_map-append}
 use Rattle.std.proofs.lemmas.List.Folds.{list_any-append}
-use Rattle.rd_base.specs.Words.{below}
 use Rattle.rd_base.specs.History.{History, stream, ended, piece_of, ends, read_fails, is_over, may_follow, follows_well, is_well_formed}
-use Rattle.rd_dialect.specs.Grammar.{Grammar}
 use Rattle.rd_dialect.specs.Laws.{Lawful}
-use Rattle.rd_rules.specs.Exchange.{Rules, open_of, start_front, reading, askers, answerers, Reading, released}
+use Rattle.rd_rules.specs.Exchange.{Rules, open_of, start_front, reading, askers, answerers}
 use Rattle.rd_rules.proofs.Grows.{Longer, Longer_all, Longer_front, Grown, read-grown}
 
 -- what comes last is well formed behind what came first

@@ -1,19 +1,17 @@
 -- The entry that releases a request: what the rows told to it need.
-use Rattle.std.proofs.Common.{◌≡◌, ℕ, suc, ◌+◌, ◌≤◌, ◌<◌, Bool, true, false, List, [], ◌∷◌, ◌++◌, length, Option, Some, None, refl, sym, ap, ap₂, subst, ◌∙◌, arith, cond, length-append}
-use Rattle.std.specs.Prelude.{nat_le, is_some, unwrap_or, option_map, option_and_then}
+use Rattle.std.proofs.Common.{◌≡◌, ℕ, ◌≤◌, ◌<◌, Bool, true, false, List, [], ◌∷◌, ◌++◌, length, Option, Some, None, refl, sym, ap, ◌∙◌, arith, cond, length-append}
+use Rattle.std.specs.Prelude.{nat_le, unwrap_or, option_map, option_and_then}
 use Rattle.std.proofs.lemmas.Bool.Decides.{nat_tests}
 use Rattle.rd_base.specs.History.{Entry}
-use Rattle.rd_base.specs.History.{History, shortest, shortest_from, is_well_formed}
+use Rattle.rd_base.specs.History.{History, shortest, is_well_formed}
 use Rattle.rd_dialect.specs.Laws.{Lawful}
 use Rattle.rd_rules.specs.Exchange.{Rules, reading, released}
 use Rattle.rd_rules.specs.Given.{released_count, told_rows}
 use Rattle.rd_base.specs.History.{Row}
 use Rattle.rd_base.specs.Words.{last_of_list}
-use Rattle.rd_rules.proofs.Grows.{Grown}
 use Rattle.rd_rules.proofs.Stays.{shortest_from-append}
 use Rattle.rd_rules.proofs.Streams.{reading-grown}
 use Rattle.rd_rules.proofs.Stops.{none_so_far, test_of_shortest, shortest_is_prefix}
-
 
 abbrev pub reaches : Rules → ℕ → History → Bool
 reaches r j g = nat_le j (released_count r g)
@@ -64,8 +62,8 @@ told_before r h e j le = go (shortest (reaches r j) h) refl
   where
     go : (o : Option History) → shortest (reaches r j) h ≡ o → told_rows r (h ++ e ∷ []) j ≡ told_rows r h j
     go None none =
-      let off : reaches r j h ≡ false = (none_so_far (reaches r j) [] h [] none).0 in
-      absurd (cc (off, le_reach j (released_count r h) le))
+        let off : reaches r j h ≡ false = (none_so_far (reaches r j) [] h [] none).0 in
+        absurd (cc (off, le_reach j (released_count r h) le))
     go (Some g) some = ap told_by (shortest_from-append (reaches r j) [] h (e ∷ []) g some ∙ sym some)
 
 -- what is told to a request that this entry releases

@@ -1,5 +1,5 @@
 -- What copies say together while some of their units are not yet whole.
-use Rattle.std.specs.Prelude.{ℕ, Bool, true, false, if◌then◌else◌, not, min, List, [], ◌∷◌, length, take, map}
+use Rattle.std.specs.Prelude.{ℕ, Bool, true, false, if◌then◌else◌, min, List, [], ◌∷◌, length, take, map}
 use Rattle.rd_base.specs.declared.values.MaskLimits.{MaskLimits}
 use Rattle.rd_base.specs.declared.values.Scan.{Scan}
 use Rattle.rd_base.specs.declared.values.Scan.TheVariants.{Whole, More, Bad, TooBig, Unsupported}

@@ -1,6 +1,5 @@
 -- A history cut into exchanges: the requests of those that ask, and the replies of those that answer.
-use Rattle.std.specs.Prelude.{ℕ, zero, suc, Bool, true, false, List, [], ◌∷◌, ◌++◌, length, take, drop, map, Option, Some, None, is_some, if◌then◌else◌, option_map}
-use Rattle.rd_base.specs.declared.values.Link.{Link}
+use Rattle.std.specs.Prelude.{ℕ, zero, suc, Bool, true, List, [], ◌∷◌, ◌++◌, length, take, drop, map, Option, Some, None, if◌then◌else◌, option_map}
 use Rattle.rd_base.specs.declared.values.Phase.{Phase}
 use Rattle.rd_base.specs.declared.values.Note.{Note}
 use Rattle.rd_base.specs.declared.values.Side.{Side}

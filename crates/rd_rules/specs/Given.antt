@@ -1,5 +1,5 @@
 -- What each link is given.
-use Rattle.std.specs.Prelude.{ℕ, suc, ◌+◌, Bool, false, List, [], ◌∷◌, ◌++◌, length, drop, map, sum, Option, Some, None, if◌then◌else◌, ◌==◌, nat_le, nat_lt, unwrap_or, option_map, option_and_then, fold}
+use Rattle.std.specs.Prelude.{ℕ, suc, Bool, false, List, [], ◌∷◌, ◌++◌, length, drop, map, sum, Option, Some, None, if◌then◌else◌, ◌==◌, nat_le, nat_lt, unwrap_or, option_map, option_and_then, fold}
 use Rattle.std.specs.List.{flat_map}
 use Rattle.rd_base.specs.declared.values.MaskLimits.{MaskLimits}
 use Rattle.rd_base.specs.declared.values.Side.{Side}
@@ -10,7 +10,7 @@ use Rattle.rd_base.specs.Words.{last_of_list}
 use Rattle.rd_base.specs.OwnRows.{learn_row}
 use Rattle.rd_base.specs.Verdicts.{verdict, mask_of, rows_at}
 use Rattle.rd_dialect.specs.Due.{request_due, reply_due}
-use Rattle.rd_rules.specs.Exchange.{Rules, Reading, reading, Exchange, Ask, note, first_bytes, token_lists, released, LinkUnit}
+use Rattle.rd_rules.specs.Exchange.{Rules, Reading, reading, Exchange, Ask, note, first_bytes, token_lists, released}
 
 -- the token lists of an exchange's replies; a farewell has none
 abbrev pub reply_lists : Rules → Exchange → List (List Token)

@@ -1,7 +1,6 @@
 -- The ending of a session, what each link has been sent, and the transcript.
-use Rattle.std.specs.Prelude.{ℕ, zero, suc, ◌+◌, List, [], ◌∷◌, ◌++◌, length, take, drop, map, Option, Some, None, is_some, option_and_then, if◌then◌else◌}
-use Rattle.std.specs.List.{flat_map}
-use Rattle.rd_base.specs.Words.{below, without_last}
+use Rattle.std.specs.Prelude.{ℕ, zero, suc, ◌+◌, List, [], ◌∷◌, ◌++◌, length, take, drop, Option, Some, None, is_some, option_and_then, if◌then◌else◌}
+use Rattle.rd_base.specs.Words.{without_last}
 use Rattle.rd_base.specs.Sent.{sends_to}
 use Rattle.rd_base.specs.History.{History, shortest}
 use Rattle.rd_base.specs.declared.values.Ending.{Ending}

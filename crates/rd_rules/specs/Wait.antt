@@ -1,5 +1,5 @@
 -- What a session waits for, and until when.
-use Rattle.std.specs.Prelude.{ℕ, zero, suc, ◌+◌, ◌-◌, ◌^◌, Bool, true, false, List, [], ◌∷◌, length, take, Option, Some, None, is_some, if◌then◌else◌, ◌==◌, ◌&&◌, not, min}
+use Rattle.std.specs.Prelude.{ℕ, zero, suc, ◌+◌, ◌-◌, ◌^◌, Bool, true, false, List, length, take, is_some, if◌then◌else◌, ◌==◌, ◌&&◌, not, min}
 use Rattle.std.specs.List.{list_any}
 use Rattle.rd_base.specs.declared.values.Side.{Side}
 use Rattle.rd_base.specs.declared.values.Side.TheVariants.{Incoming, Outgoing}

@@ -1,6 +1,6 @@
 use Rattle.std.proofs.Common.{ap, ◌≡◌, ◌∙◌, arith, length}
 use Rattle.rd_rules.specs.Exchange.{first_bytes}
-use Rattle.rd_core.specs.Seen.{seen_request, seen_front}
+use Rattle.rd_core.specs.Seen.{seen_request}
 use Rattle.rd_core.proofs.WholeUnits.{answered_by, length-past}
 use Rattle.rd_core.proofs.read.after_exchange.Goals as goal
 

@@ -1,5 +1,5 @@
-use Rattle.std.proofs.Common.{ap, ap₂, sym, subst, ◌∙◌, ◌≡◌, ◌++◌, ◌∷◌, [], Some, None, Option, List, ◌-◌, map, arith, length, append-nil}
-use Rattle.std.specs.Prelude.{option_map, All, IfSome}
+use Rattle.std.proofs.Common.{ap, sym, subst, ◌∙◌, ◌≡◌, ◌++◌, ◌∷◌, [], Some, None, Option, List, ◌-◌, map, arith, length, append-nil}
+use Rattle.std.specs.Prelude.{option_map, IfSome}
 use Rattle.std.proofs.lemmas.List.{length_push}
 use Rattle.std.proofs.lemmas.List.Elements.{All-push, All-same}
 use Rattle.rd_rules.specs.Exchange as rule
@@ -10,8 +10,8 @@ use Rattle.rd_core.specs.declared.exchange.DoneExchange.{DoneExchange}
 use Rattle.rd_core.specs.declared.exchange.Request.{Request}
 use Rattle.rd_core.specs.declared.exchange.Replies.{Replies}
 use Rattle.rd_core.specs.Whole.{IsAsked, IsAnswered, IsDone}
-use Rattle.rd_core.specs.Seen.{seen_request, seen_exchange, seen_front, seen_reading, rules_of}
-use Rattle.rd_core.proofs.ReadSteps.{read_out, read_more, read_none, done_more, rows_more}
+use Rattle.rd_core.specs.Seen.{seen_request, seen_exchange, seen_front, rules_of}
+use Rattle.rd_core.proofs.ReadSteps.{read_out, read_more, done_more, rows_more}
 use Rattle.rd_core.proofs.read.read_on.Goals as goal
 
 pub returns-in_default-2-clause-reads : goal.returns-in_default-2-clause-reads

@@ -1,4 +1,4 @@
-use Rattle.std.proofs.Common.{ap, sym, ◌∙◌, ◌≡◌, true, Some}
+use Rattle.std.proofs.Common.{ap, sym, ◌∙◌, ◌≡◌}
 use Rattle.std.specs.Prelude.{option_map}
 use Rattle.rd_dialect.specs.Due.{reply_due}
 use Rattle.rd_rules.specs.Exchange.{units, note, empty_unit}

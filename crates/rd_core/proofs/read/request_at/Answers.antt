@@ -1,6 +1,5 @@
-use Rattle.std.proofs.Common.{ap, sym, ◌∙◌, ◌≡◌, Some}
+use Rattle.std.proofs.Common.{ap, sym, ◌∙◌}
 use Rattle.std.specs.Prelude.{option_map}
-use Rattle.rd_dialect.specs.Due.{request_due}
 use Rattle.rd_rules.specs.Exchange.{units}
 use Rattle.rd_core.proofs.WholeUnits.{asked_whole}
 use Rattle.rd_core.proofs.read.request_at.Goals as goal

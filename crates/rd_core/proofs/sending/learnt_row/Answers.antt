@@ -1,4 +1,4 @@
-use Rattle.std.proofs.Common.{◌≡◌, ◌≤◌, ◌∷◌, ◌++◌, [], ap, sym, ◌∙◌, arith, take, length, not}
+use Rattle.std.proofs.Common.{◌≤◌, ◌∷◌, ◌++◌, [], ap, sym, ◌∙◌, arith, take, length, not}
 use Rattle.std.specs.Prelude.{filter}
 use Rattle.std.proofs.lemmas.List.{take_all, take_more}
 use Rattle.rd_base.specs.Swap.{shows}

@@ -7,4 +7,4 @@ use Rattle.rd_core.proofs.sending.replies_for.Goals as goal
 pub hand_back-requires : goal.hand_back-requires
 hand_back-requires g c =
     subst (λ (x : DoneExchange). IsDone (g.D.Dialect.grammar c.args.dialect.now) (seen_exchange x)) (sym c.exchange-item.is)
-      (c.requires c.loop-exchange.exchange-index c.exchange-item.result c.loop-exchange-test.true)
+    (c.requires c.loop-exchange.exchange-index c.exchange-item.result c.loop-exchange-test.true)

@@ -13,6 +13,6 @@ invariant-loop-exchange g l =
     let out = option_map seen_request l.reading.out in
     record {
       sent : l.bytes ++ flat_map (forwarded rules l.link l.told) (drop (sent_before l.skips) (releases rules (latest_of l.own l.later) (map seen_exchange (drop l.exchange-index l.reading.done.items)) out))
-        ≡ flat_map (forwarded rules l.link l.told) (drop (sent_before l.was_out) (releases rules l.own (map seen_exchange l.reading.done.items) out));
+          ≡ flat_map (forwarded rules l.link l.told) (drop (sent_before l.was_out) (releases rules l.own (map seen_exchange l.reading.done.items) out));
       rows : rows_are rules (drop l.exchange-index l.reading.done.items);
     }

@@ -1,4 +1,4 @@
-use Rattle.std.proofs.Common.{◌≡◌, ◌-◌, ◌+◌, ap, ap₂, sym, ◌∙◌, arith, refl, List, [], None, Bool}
+use Rattle.std.proofs.Common.{◌≡◌, ◌-◌, ◌+◌, ap, ap₂, sym, ◌∙◌, arith, refl, [], Bool}
 use Rattle.std.specs.Prelude.{is_some, option_map}
 use Rattle.rd_base.specs.Sent.{sends_to}
 use Rattle.rd_base.specs.History.{is_timer}
@@ -8,9 +8,9 @@ use Rattle.rd_rules.specs.Trouble.{full_log_at, or_else}
 use Rattle.rd_core.specs.Faults.{fault_by}
 use Rattle.rd_core.specs.Seen.{rules_of, seen_front, seen_request}
 use Rattle.rd_core.specs.Stages.{seen_stage}
-use Rattle.rd_core.specs.Standing.{now_from, next_reading, late_at}
+use Rattle.rd_core.specs.Standing.{next_reading, late_at}
 use Rattle.rd_core.specs.Clocks.{standing, entry_of}
-use Rattle.rd_core.proofs.Moves.{moved, has_more, is_some-map, has_room}
+use Rattle.rd_core.proofs.Moves.{moved, has_more, is_some-map}
 use Rattle.rd_core.proofs.session.move_of.Goals as goal
 
 pub returns-clause-goes : goal.returns-clause-goes
@@ -29,9 +29,9 @@ returns-clause-goes g c =
     record {
       at = moved rules stage plan.stage own plan.rows c.args.clock c.clock_after-clock.result e next next_is c.in_ok-later.ensures.stage c.clock_after-clock.ensures.entries c.clock_after-clock.ensures.moment c.clock_after-clock.ensures.began;
       ending = c.ending_of-ending.ensures
-        ∙ ap (λ t. or_else (or_else (fault_by limits.copies e.what) (late_at c.args.setup.now.side limits (is_timer e.what) (standing plan.stage [] c.clock_after-clock.result))) (or_else t (full_log_at c.clock_after-clock.result.entries))) c.in_ok-later.ensures.trouble;
+          ∙ ap (λ t. or_else (or_else (fault_by limits.copies e.what) (late_at c.args.setup.now.side limits (is_timer e.what) (standing plan.stage [] c.clock_after-clock.result))) (or_else t (full_log_at c.clock_after-clock.result.entries))) c.in_ok-later.ensures.trouble;
       sent = c.in_ok-later.ensures.sends
-        ∙ ap₂ (λ (b : Bool) (n : rule.Reading). sends_to (limits.copies + 1) (λ l. given_now rules l own told b n)) out next_is;
+          ∙ ap₂ (λ (b : Bool) (n : rule.Reading). sends_to (limits.copies + 1) (λ l. given_now rules l own told b n)) out next_is;
     }
 
 pub returns-clause-kept : goal.returns-clause-kept
@@ -48,6 +48,6 @@ returns-clause-kept g c =
       count = c.in_ok-later.ensures.count;
       asked = c.in_ok-later.ensures.asked;
       more = λ none. has_more rules c.args.setup.now plan.stage clock.entries
-        (or_else (fault_by limits.copies what) (late_at c.args.setup.now.side limits (is_timer what) (standing plan.stage [] clock)))
-        plan.trouble c.ending_of-ending.result refl c.requires.kept.incoming c.in_ok-later.ensures.trouble c.ending_of-ending.ensures (omega (arith, c.clock_after-clock.ensures.entries)) none;
+          (or_else (fault_by limits.copies what) (late_at c.args.setup.now.side limits (is_timer what) (standing plan.stage [] clock)))
+          plan.trouble c.ending_of-ending.result refl c.requires.kept.incoming c.in_ok-later.ensures.trouble c.ending_of-ending.ensures (omega (arith, c.clock_after-clock.ensures.entries)) none;
     }

@@ -1,4 +1,4 @@
-use Rattle.std.proofs.Common.{◌≡◌, ◌≤◌, ◌<◌, ◌-◌, ◌+◌, ◌++◌, [], ℕ, drop, map, length}
+use Rattle.std.proofs.Common.{◌≡◌, drop}
 use Rattle.rd_rules.specs.Trouble as rule
 use Rattle.rd_base.specs.declared.values.Ending.TheVariants as ending
 use Rattle.rd_rules.specs.Exchange.{scan_open}

@@ -1,4 +1,4 @@
-use Rattle.std.proofs.Common.{◌≡◌, ◌≤◌, ◌<◌, ◌-◌, ◌+◌, ◌++◌, [], ℕ, drop, map, length}
+use Rattle.std.proofs.Common.{◌≡◌, drop}
 use Rattle.rd_rules.specs.Trouble as rule
 use Rattle.rd_core.proofs.trouble.unsupported.Given as goal
 

@@ -1,7 +1,6 @@
-use Rattle.std.proofs.Common.{◌≡◌, ◌-◌, ap, ap₂, sym, ◌∙◌, arith, refl, false, List, [], None}
+use Rattle.std.proofs.Common.{◌≡◌, ◌-◌, ap, ap₂, sym, ◌∙◌, arith, refl, false, [], None}
 use Rattle.rd_rules.specs.Exchange as rule
 use Rattle.rd_rules.specs.Given.{learnt}
-use Rattle.rd_rules.specs.Trouble.{full_log_at, or_else}
 use Rattle.rd_core.specs.Seen.{rules_of, seen_front}
 use Rattle.rd_core.specs.Stages.{seen_stage}
 use Rattle.rd_core.specs.Standing.{now_from}
@@ -31,9 +30,9 @@ returns-clause-at g c =
     let none : most.exchanges_max - 0 ≡ most.exchanges_max = omega arith in
     let own = c.rows.ensures.rows ∙ c.in_ok-own.ensures in
     start_at rules (record { dialect = c.args.dialect; setup = c.args.setup; at = standing plan.stage c.learn_all.new.own (record { entries = 0; moment = 0; began = 0 }); ending = plan.trouble })
-      (ap (seen_stage plan.stage) (c.learn_all.ensures ∙ ap (λ o. learnt o plan.rows) (sym c.rows.ensures.rows))
-      ∙ c.in_ok-plan.ensures.stage
-      ∙ ap₂ (λ o f. now_from rules 0 false o (rule.read grammar most.mask f (seen_front c.in_ok-front.front))) own none
-      ∙ ap (λ f. now_from rules 0 false [] (rule.read grammar most.mask most.exchanges_max f)) c.in_ok-front.ensures
-      ∙ first_stage rules (rule.reading rules []))
-      refl refl refl c.in_ok-plan.ensures.trouble
+    (ap (seen_stage plan.stage) (c.learn_all.ensures ∙ ap (λ o. learnt o plan.rows) (sym c.rows.ensures.rows))
+    ∙ c.in_ok-plan.ensures.stage
+    ∙ ap₂ (λ o f. now_from rules 0 false o (rule.read grammar most.mask f (seen_front c.in_ok-front.front))) own none
+    ∙ ap (λ f. now_from rules 0 false [] (rule.read grammar most.mask most.exchanges_max f)) c.in_ok-front.ensures
+    ∙ first_stage rules (rule.reading rules []))
+    refl refl refl c.in_ok-plan.ensures.trouble

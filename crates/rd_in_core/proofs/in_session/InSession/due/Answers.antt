@@ -8,5 +8,5 @@ use Rattle.rd_in_core.proofs.in_session.InSession.due.Goals as goal
 pub returns-clause-due : goal.returns-clause-due
 returns-clause-due g c = λ h at.
     subst (λ (r : Rules). IfSome c.due.result (λ d. (d.0 ≡ due_moment r h) × (d.1 ≡ (wait r h).which)))
-      (sym (rules_in g.D.Dialect.grammar c.self.inside.session c.self.invariant c.args.self.now c.self.view_is))
-      (c.due.ensures.due h (at_in g.D.Dialect.grammar c.self.inside.session c.self.invariant c.args.self.now c.self.view_is h at))
+    (sym (rules_in g.D.Dialect.grammar c.self.inside.session c.self.invariant c.args.self.now c.self.view_is))
+    (c.due.ensures.due h (at_in g.D.Dialect.grammar c.self.inside.session c.self.invariant c.args.self.now c.self.view_is h at))
