@@ -2,5 +2,7 @@
 #![tactic(auto)]
 
 mod in_session;
+#[cfg(test)]
+mod tests;
 
 pub use in_session::InSession;
