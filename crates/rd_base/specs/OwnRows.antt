@@ -15,3 +15,8 @@ learn_row most rows row = take most (row ∷ filter (λ r. not (shows (shown_of 
 -- rows that were learnt in this order: the newest first, one per shown word, the first 256
 abbrev pub own_rows : List Row → List Row
 own_rows rows = fold (learn_row 256) [] rows
+
+-- one row per shown word: of two that show the same, the one that stands first
+abbrev pub one_per_shown : List Row → List Row
+one_per_shown [] = []
+one_per_shown (row ∷ rows) = row ∷ filter (λ r. not (shows (shown_of row) r)) (one_per_shown rows)

@@ -1,5 +1,5 @@
-ghost use Rattle.std.specs.Prelude.{◌≡◌, ◌≤◌, ◌<◌, ◌∷◌, [], length, take, filter, not, vec_len, IfOk};
-ghost use Rattle.rd_base.specs.OwnRows.{learn_row};
+ghost use Rattle.std.specs.Prelude.{◌≡◌, ◌≤◌, ◌<◌, ◌∷◌, [], length, take, filter, fold, reverse, not, All, IfOk};
+ghost use Rattle.rd_base.specs.OwnRows.{learn_row, one_per_shown};
 ghost use Rattle.rd_base.specs.Swap.{shows};
 ghost use Rattle.rd_token_map.specs.Spares.{HasSpares};
 
@@ -56,6 +56,17 @@ impl OwnRows {
         if let Some(mut spare) = self.spares.pop() {
             *spare = row.copied();
             self.rows.put_first(spare);
+        }
+    }
+
+    /// Learns these rows, one after another. Takes no memory.
+    pub fn learn_all(&mut self, rows: &Rows)
+        requires { All (λ row. 0 < length row) rows.now }
+        ensures learnt { self.new ≡ fold (learn_row 256) self.old rows.now }
+        ensures newest { self.old ≡ [] → self.new ≡ take 256 (one_per_shown (reverse rows.now)) }
+    {
+        for place in 0..rows.len() {
+            self.learn(rows.at(place));
         }
     }
 

@@ -32,7 +32,10 @@ fn keeps_the_newest_rows(rt: HostRuntime) -> Result<(), Fail> {
         (255, "shown-0000-0000-44"),
     ] {
         assert!(rt; place < own.rows().len());
-        assert!(rt; own.rows().at(place).is_shown(shown.as_bytes()), "at {place}");
+        assert!(rt;
+            own.rows().at(place).is_shown(shown.as_bytes()),
+            "at {place}"
+        );
     }
     let text = "x=shown-0000-0000-100&y=shown-0000-0000-43\n";
     let swapped = swap_words(alloc, 1, own.rows(), &Rows::new(alloc), text.as_bytes())?;
