@@ -1,4 +1,4 @@
-use Rattle.std.proofs.Common.{◌≡◌, ◌∙◌, ◌+◌, ◌-◌, ◌++◌, [], ◌∷◌, ap, sym, refl, drop, take, arith, append_assoc}
+use Rattle.std.proofs.Common.{◌∙◌, ◌+◌, ◌++◌, [], ◌∷◌, ap, sym, drop, take, arith, append_assoc}
 use Rattle.rd_token_map.specs.SwapForm.{swap_form, swap_pair}
 use Rattle.rd_token_map.proofs.Pairs.{form_more, form_last}
 use Rattle.rd_token_map.proofs.form.push_first_pair.Goals as goal

@@ -1,4 +1,4 @@
-use Rattle.std.proofs.Common.{◌≡◌, ◌∙◌, ◌++◌, ap, sym, arith, append-nil}
+use Rattle.std.proofs.Common.{◌∙◌, ◌++◌, ap, sym, arith, append-nil}
 use Rattle.std.proofs.lemmas.List.{drop_all}
 use Rattle.rd_token_map.specs.SwapForm.{swap_form}
 use Rattle.rd_token_map.proofs.Pairs.{empty_form}
