@@ -88,8 +88,8 @@ module _ (most : MaskLimits) (n : ℕ) (lists : List (List Token)) (place : ℕ)
   fault_same : fault most (map (take n) lists) place ≡ fault most lists place
   fault_same =
       ap₂ or_fault (ap (least_disagrees place) alone_same)
-        (ap (λ b. cond b (masked_fault most (map (take n) lists) place) (plain_fault (map (take n) lists) place)) (masked_same n lists place lt)
-        ∙ ap₂ (λ a b. cond (is_masked lists place) a b) masked_fault_same plain_fault_same)
+      (ap (λ b. cond b (masked_fault most (map (take n) lists) place) (plain_fault (map (take n) lists) place)) (masked_same n lists place lt)
+      ∙ ap₂ (λ a b. cond (is_masked lists place) a b) masked_fault_same plain_fault_same)
 
 from_same : (most : MaskLimits) (n : ℕ) (lists : List (List Token)) (place count : ℕ) → place + count ≤ n → verdict_from most (map (take n) lists) place count ≡ verdict_from most lists place count
 from_same most n lists place zero le = ap Agreed (below_same n lists place (omega arith))
@@ -138,7 +138,7 @@ early_is most exchange bound shortest n copies lists cut v lists_is shortest_is 
     let long : n ≡ longest (lists_of copies) = n_is ∙ ap longest lists_is in
     let count : length lists ≡ length copies = ap length lists_is ∙ length-map copies (λ c. c.tokens) in
     let cuts : cut ≡ map (take (min (judged_of bound copies) (longest (lists_of copies)))) (lists_of copies) =
-      cut_is ∙ ap₂ (λ k ls. map (take k) ls) (ap₂ min shortest_is long) lists_is in
+    cut_is ∙ ap₂ (λ k ls. map (take k) ls) (ap₂ min shortest_is long) lists_is in
     ap (blamed exchange) (v_is ∙ ap (verdict most) cuts ∙ early_cut most bound copies (omega arith))
     ∙ sym (judge_by_is most exchange copies (omega arith))
 

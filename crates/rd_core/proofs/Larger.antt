@@ -40,7 +40,7 @@ module _ (few many : MaskLimits) (places : few.places ≤ many.places) (bytes : 
       let quiet = noise_none (nat_lt few.places n || list_any (λ tokens. is_long few.bytes (slice_get tokens place)) lists) place least e in
       let both = either_false (nat_lt few.places n) (list_any (λ tokens. is_long few.bytes (slice_get tokens place)) lists) quiet.0 in
       let off : (nat_lt many.places n || list_any (λ tokens. is_long many.bytes (slice_get tokens place)) lists) ≡ false =
-        ap₂ (λ a b. a || b) (lt_less few.places many.places n places both.0) (any_less few.bytes many.bytes place lists bytes both.1) in
+      ap₂ (λ a b. a || b) (lt_less few.places many.places n places both.0) (any_less few.bytes many.bytes place lists bytes both.1) in
       ap (λ b. cond b (Some (Noise place)) least) off ∙ quiet.1
 
   fault_none : (place : ℕ) → fault few lists place ≡ None → fault many lists place ≡ None
@@ -49,6 +49,7 @@ module _ (few many : MaskLimits) (places : few.places ≤ many.places) (bytes : 
       either : (t : Bool) → cond t (masked_fault few lists place) (plain_fault lists place) ≡ None → cond t (masked_fault many lists place) (plain_fault lists place) ≡ None
       either true e = masked_none place e
       either false e = e
+
       alone : (o : Option Verdict) → or_fault o (cond (is_masked lists place) (masked_fault few lists place) (plain_fault lists place)) ≡ None → or_fault o (cond (is_masked lists place) (masked_fault many lists place) (plain_fault lists place)) ≡ None
       alone None e = either (is_masked lists place) e
       alone (Some v) e = cc

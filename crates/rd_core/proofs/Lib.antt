@@ -1,2 +1,9 @@
 pub mod Larger
 pub mod Cutting
+pub mod WholeUnits
+pub mod ReadSteps
+pub mod Faulty
+pub mod Learning
+pub mod Taken
+pub mod Planned
+pub mod Moves

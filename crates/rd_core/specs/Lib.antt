@@ -1,2 +1,10 @@
 pub mod Room
 pub mod Heard
+pub mod Whole
+pub mod Seen
+pub mod Stages
+pub mod Faults
+pub mod Sending
+pub mod Standing
+pub mod Kept
+pub mod Clocks

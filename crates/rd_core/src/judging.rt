@@ -1,4 +1,4 @@
-ghost use Rattle.std.specs.Prelude.{◌≡◌, ◌≤◌, ◌<◌, ◌+◌, ◌-◌, ◌^◌, ◌++◌, [], ◌∷◌, List, ℕ, Some, None, true, false, length, map, take, All, MatchOption, IfOk, OnOk};
+ghost use Rattle.std.specs.Prelude.{◌≡◌, ◌≤◌, ◌<◌, ◌+◌, ◌-◌, ◌^◌, ◌++◌, [], ◌∷◌, List, ℕ, Some, None, true, false, length, map, take, All, MatchOption, option_map, IfSome, IfOk, OnOk};
 ghost use Rattle.rd_base.specs.Token.{token_of};
 ghost use Rattle.rd_base.specs.Limits.{AreMaskLimits};
 ghost use Rattle.rd_verdict.specs.LiesIn.{LiesIn};
@@ -12,9 +12,7 @@ ghost use Rattle.rd_core.specs.Heard.{left_due, lists_of};
 
 use crate::opens::{Open, scan_open};
 use crate::unit::{LinkUnit, push_unit};
-use rd_base::{
-    Bytes, Ending, Mask, MaskLimits, NoMemory, Rows, Scan, Verdict,
-};
+use rd_base::{Bytes, Ending, Mask, MaskLimits, NoMemory, Rows, Scan, Verdict};
 use rd_dialect::{Dialect, Due};
 use rd_verdict::{Copies, Spans, judge, rows_of};
 use std::alloc::Global;
@@ -34,9 +32,9 @@ fn spans_of<D: Dialect>(
 {
     let mut spans = Spans::new(alloc);
     let mut cursor = dialect.first_cursor();
-    while let Some((span, next)) =
-        dialect.next_token(due.part, due.phase, due.note, flat, whole, cursor)
-    {
+    while let Some((span, next)) = dialect.next_token(
+        due.part, due.phase, due.note, flat, whole, cursor,
+    ) {
         spans.push(span)?;
         cursor = next;
     }
@@ -81,9 +79,8 @@ pub(crate) fn whole_units<D: Dialect>(
     opens: &[Open],
 ) -> Result<Option<WholeUnits>, NoMemory>
     requires { length opens.now ≤ 8 }
-    ensures { IfOk result (λ found. MatchOption found
-        (rule.units (D.grammar dialect.now) due opens.now ≡ None)
-        (λ w. (rule.units (D.grammar dialect.now) due opens.now ≡ Some w.units.items) × (w.copies ≡ rule.token_lists (D.grammar dialect.now) due w.units.items))) }
+    ensures units { IfOk result (λ found. option_map (λ w. w.units.items) found ≡ rule.units (D.grammar dialect.now) due opens.now) }
+    ensures copies { IfOk result (λ found. IfSome found (λ w. w.copies ≡ rule.token_lists (D.grammar dialect.now) due w.units.items)) }
 {
     let mut units = Vec::new(alloc);
     let mut copies = Copies::new(alloc);

@@ -167,11 +167,7 @@ pub(crate) fn past_units(
 }
 
 /// What is open once a happening is heard.
-pub(crate) fn grow_opens(
-    alloc: Global,
-    opens: &[Open],
-    what: &What,
-) -> Result<Vec<Open>, NoMemory>
+pub(crate) fn grow_opens(alloc: Global, opens: &[Open], what: &What) -> Result<Vec<Open>, NoMemory>
     requires { All (HasRoom what.now) opens.now }
     ensures { IfOk result (λ os. os.items ≡ map (grow_by what.now) opens.now) }
 {

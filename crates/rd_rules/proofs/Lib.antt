@@ -3,3 +3,6 @@ pub mod Streams
 pub mod Steps
 pub mod Stays
 pub mod Stops
+pub mod Telling
+pub mod GivenSteps
+pub mod Moments

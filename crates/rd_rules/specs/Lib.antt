@@ -6,3 +6,4 @@ pub mod Wait
 pub mod Trouble
 pub mod Sent
 pub mod Laws
+pub mod WorkedRows

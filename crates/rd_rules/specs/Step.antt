@@ -1,8 +1,10 @@
 -- What is read once more has been heard, from what was read before.
-use Rattle.std.specs.Prelude.{ℕ, ◌-◌, ◌||◌, List, ◌++◌, length, map}
+use Rattle.std.specs.Prelude.{ℕ, ◌-◌, ◌||◌, Bool, true, false, List, ◌++◌, length, map, drop, if◌then◌else◌}
+use Rattle.std.specs.List.{flat_map}
 use Rattle.rd_base.specs.declared.values.What.{What}
-use Rattle.rd_base.specs.History.{History, stream, ended, piece_of, ends}
+use Rattle.rd_base.specs.History.{History, Row, stream, ended, piece_of, ends}
 use Rattle.rd_rules.specs.Exchange.{Rules, Open, Front, Reading, Exchange, read}
+use Rattle.rd_rules.specs.Given.{forwarded, handed_back, is_asker, releases}
 
 -- what more has come of a link
 abbrev pub grow : History → Open → Open
@@ -25,3 +27,15 @@ with_done xs r = record r { done = xs ++ r.done }
 abbrev pub read_further : Rules → Reading → History → Reading
 read_further r now e = with_done now.done
     (read r.grammar r.limits.mask (r.limits.exchanges_max - length now.done) (grow_front e now.left))
+
+-- the requests that were sent before a step: the one that was out
+abbrev pub sent_before : Bool → ℕ
+sent_before true = 1
+sent_before false = 0
+
+-- what link l is given of what a step reads: replies, or the requests that weren't sent before, by the own rows and those told to the step
+abbrev pub given_now : Rules → ℕ → List Row → List Row → Bool → Reading → List ℕ
+given_now r l own told was_out now =
+    if is_asker r l
+    then flat_map (handed_back r) now.done
+    else flat_map (forwarded r l told) (drop (sent_before was_out) (releases r own now.done now.out))

@@ -111,9 +111,9 @@ abbrev pub past_out : List Open → Option Ask → List Open
 past_out opens None = opens
 past_out opens (Some ask) = past opens ask.units
 
-abbrev pub open_asking : Side → Now → List Open
-open_asking Incoming now = now.left.asking
-open_asking Outgoing now = past_out now.left.asking now.out
+abbrev pub open_asking : Side → List Open → Option Ask → List Open
+open_asking Incoming opens out = opens
+open_asking Outgoing opens out = past_out opens out
 
 -- a link has too many open bytes, or the head or trailer of its due unit is past its limit
 abbrev pub is_big : Grammar → ℕ → Bool → Due → Open → Bool
@@ -125,7 +125,7 @@ big_among g most is_due due opens = least_open ending.TooBig (is_big g most is_d
 abbrev pub too_big : Rules → Now → Option Ending
 too_big r now = by_links r.side
     (big_among r.grammar r.limits.unit_max (is_some now.out) (due_of r.grammar now) now.left.answering)
-    (big_among r.grammar r.limits.unit_max (not (is_some now.out)) (due_of r.grammar now) (open_asking r.side now))
+    (big_among r.grammar r.limits.unit_max (not (is_some now.out)) (due_of r.grammar now) (open_asking r.side now.left.asking now.out))
 
 -- the due unit of a link asks for what isn't supported
 abbrev pub unsupported_in : Grammar → Due → List Open → Option Ending

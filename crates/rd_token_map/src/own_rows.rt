@@ -48,10 +48,9 @@ impl OwnRows {
 
     /// Puts a copy of this row first, in place of one that shows the same word, and keeps the first 256. Takes no memory.
     pub fn learn(&mut self, row: &Row)
-        requires { 0 < length row.now }
         ensures { self.new ≡ learn_row 256 self.old row.now }
     {
-        drop_shown(&mut self.rows, &mut self.spares, row.shown());
+        drop_shown(&mut self.rows, &mut self.spares, row.word());
         drop_last(&mut self.rows, &mut self.spares);
         if let Some(mut spare) = self.spares.pop() {
             *spare = row.copied();

@@ -1,0 +1,161 @@
+-- What a step works out, from what its parts answer.
+use Rattle.std.proofs.Common.{◌≡◌, ℕ, zero, suc, ◌+◌, ◌-◌, ◌<◌, ◌≤◌, Bool, true, false, cond, not, List, [], ◌∷◌, ◌++◌, length, map, max, Option, Some, None, refl, sym, ap, ap₂, subst, ◌∙◌, arith}
+use Rattle.std.specs.Prelude.{is_some, option_map, slice_index_or, find, nat_lt, nat_le, ◌||◌, ◌&&◌, ◌==◌}
+use Rattle.std.specs.List.{All}
+use Rattle.std.proofs.lemmas.Bool.{and_parts}
+use Rattle.std.proofs.lemmas.Bool.Decides.{nat_tests}
+use Rattle.std.proofs.lemmas.List.Elements.{All-nil, All-cons}
+use Rattle.rd_base.specs.declared.values.Link.{Link}
+use Rattle.rd_base.specs.declared.values.Limits.{Limits}
+use Rattle.rd_base.specs.declared.values.Side.{Side}
+use Rattle.rd_base.specs.declared.values.Side.TheVariants.{Incoming, Outgoing}
+use Rattle.rd_base.specs.declared.values.What.{What}
+use Rattle.rd_base.specs.declared.values.What.TheVariants.{Piece, End, ReadFail, WriteFail, Timer, Stop}
+use Rattle.rd_base.specs.declared.values.Ending.{Ending}
+use Rattle.rd_base.specs.declared.values.Ending.TheVariants as ending
+use Rattle.rd_base.specs.declared.sends.Send.{Send}
+use Rattle.rd_base.specs.Sent.{sends_to}
+use Rattle.rd_base.specs.History.{History, Entry, Row, is_timer, is_well_formed, may_follow, is_over, piece_of}
+use Rattle.rd_dialect.specs.Grammar.{Grammar}
+use Rattle.rd_dialect.specs.declared.due.Due.{Due}
+use Rattle.rd_rules.specs.Exchange as rule
+use Rattle.rd_rules.specs.Exchange.{Rules, reading, read, scan_open}
+use Rattle.rd_rules.specs.Given.{learnt}
+use Rattle.rd_rules.specs.Step.{grow_front_by, given_now}
+use Rattle.rd_rules.specs.Trouble.{Now, now_of, trouble_of, or_else, full_log_at, malformed, too_big, unsupported, disagreed, end_trouble, scan_trouble, big_among, is_big, least_open, open_asking, is_too_big, link_of, due_of, by_links}
+use Rattle.rd_rules.proofs.Streams.{follows_well-append}
+use Rattle.rd_core.specs.declared.setup.Setup.{Setup}
+use Rattle.rd_core.specs.declared.stage.Stage.{Stage}
+use Rattle.rd_core.specs.declared.clock.Clock.{Clock}
+use Rattle.rd_core.specs.Room.{HasRoom}
+use Rattle.rd_core.specs.Seen.{seen_front, seen_request}
+use Rattle.rd_core.specs.Stages.{seen_stage}
+use Rattle.rd_core.specs.Clocks.{standing}
+use Rattle.rd_core.specs.Faults.{fault_by}
+use Rattle.rd_core.specs.Kept.{Fits, HasMore, is_oversized}
+use Rattle.rd_core.specs.Standing.{Standing, next_reading, now_from, now_after, wait_at, began_at, standing_by, standing_after, late_at, ending_at, Goes}
+
+pub is_some-map : {A B : Type 0} (f : A → B) (o : Option A) → is_some (option_map f o) ≡ is_some o
+is_some-map f None = refl
+is_some-map f (Some x) = refl
+
+or_right : (a b : Option Ending) → or_else a b ≡ None → b ≡ None
+or_right None b e = e
+or_right (Some x) b e = cc
+
+or_left : (a b : Option Ending) → or_else a b ≡ None → a ≡ None
+or_left None b e = refl
+or_left (Some x) b e = cc
+
+-- ---- what a live session has room for
+
+either_false : (a b : Bool) → (a || b) ≡ false → a ≡ false
+either_false true b e = cc
+either_false false b e = refl
+
+le_of : (m n : ℕ) → nat_lt m n ≡ false → n ≤ m
+le_of m n e = grind (arith, nat_tests)
+
+-- where no link is too big, each fits
+all_small : (g : Grammar) (most : ℕ) (is_due : Bool) (due : Due) (os : List rule.Open) → big_among g most is_due due os ≡ None → All (Fits most) os
+all_small g most is_due due [] e = All-nil (Fits most)
+all_small g most is_due due (o ∷ os) e = go (λ q. all_small g most is_due due os q) (is_big g most is_due due o) refl e
+  where
+    rest : Option rule.Open
+    rest = find (is_big g most is_due due) os
+    go : (option_map (λ o. ending.TooBig (link_of o.link)) rest ≡ None → All (Fits most) os) → (b : Bool) → is_big g most is_due due o ≡ b → option_map (λ o. ending.TooBig (link_of o.link)) (cond b (Some o) rest) ≡ None → All (Fits most) (o ∷ os)
+    go ih true is q = cc
+    go ih false is q =
+      All-cons (Fits most) o os (le_of most (length o.bytes) (either_false (nat_lt most (length o.bytes)) (is_due && is_too_big (scan_open g due o)) is)) (ih q)
+
+pub fits : (r : Rules) (stage : Stage) → r.side ≡ Incoming → trouble_of r (seen_stage stage []) ≡ None
+    → All (Fits r.limits.unit_max) stage.left.asking.items × All (Fits r.limits.unit_max) stage.left.answering.items
+fits r stage side none =
+    let now = seen_stage stage [] in
+    let scans : scan_trouble r now ≡ None = or_left (scan_trouble r now) (or_else (disagreed r now) (end_trouble r now)) none in
+    let big : too_big r now ≡ None = or_left (too_big r now) (unsupported r.grammar now) (or_right (malformed r.grammar now) (or_else (too_big r now) (unsupported r.grammar now)) scans) in
+    by r.side side big
+  where
+    by : (s : Side) → s ≡ Incoming
+        → by_links s (big_among r.grammar r.limits.unit_max (is_some (option_map seen_request stage.out)) (due_of r.grammar (seen_stage stage [])) stage.left.answering.items)
+            (big_among r.grammar r.limits.unit_max (not (is_some (option_map seen_request stage.out))) (due_of r.grammar (seen_stage stage [])) (open_asking s stage.left.asking.items (option_map seen_request stage.out))) ≡ None
+        → All (Fits r.limits.unit_max) stage.left.asking.items × All (Fits r.limits.unit_max) stage.left.answering.items
+    by Incoming is q =
+      let due = due_of r.grammar (seen_stage stage []) in
+      let out = is_some (option_map seen_request stage.out) in
+      let answering = big_among r.grammar r.limits.unit_max out due stage.left.answering.items in
+      let asking = big_among r.grammar r.limits.unit_max (not out) due stage.left.asking.items in
+      (all_small r.grammar r.limits.unit_max (not out) due stage.left.asking.items (or_right answering asking q), all_small r.grammar r.limits.unit_max out due stage.left.answering.items (or_left answering asking q))
+    by Outgoing is q = cc
+
+not_full : (n : ℕ) → full_log_at n ≡ None → n ≤ 1048576 → n < 1048576
+not_full n e le = go (n == 1048576) refl e
+  where
+    go : (b : Bool) → (n == 1048576) ≡ b → cond b (Some ending.FullLog) None ≡ None → n < 1048576
+    go true is q = cc
+    go false is q = grind (arith, nat_tests)
+
+-- a session that goes on has room for one entry more
+pub has_more : (r : Rules) (setup : Setup) (stage : Stage) (entries : ℕ) (fault trouble end : Option Ending) → r.limits ≡ setup.limits → r.side ≡ Incoming
+    → trouble ≡ trouble_of r (seen_stage stage []) → end ≡ or_else fault (or_else trouble (full_log_at entries)) → entries ≤ 1048576 → end ≡ None → HasMore setup stage entries
+has_more r setup stage entries fault trouble end limits side is ends le none =
+    let rest : or_else trouble (full_log_at entries) ≡ None = or_right fault (or_else trouble (full_log_at entries)) (sym ends ∙ none) in
+    let all = fits r stage side (sym is ∙ or_left trouble (full_log_at entries) rest) in
+    record {
+      asking = subst (λ (n : ℕ). All (Fits n) stage.left.asking.items) (ap (λ (l : Limits). l.unit_max) limits) all.0;
+      answering = subst (λ (n : ℕ). All (Fits n) stage.left.answering.items) (ap (λ (l : Limits). l.unit_max) limits) all.1;
+      room = not_full entries (or_right trouble (full_log_at entries) rest) le;
+    }
+
+-- ---- pieces
+
+sized_piece : (l : ℕ) (w : What) → is_oversized w ≡ false → length (piece_of l w) ≤ 16384
+sized_piece l (Piece m bytes) e = by (l == m.0)
+  where
+    by : (b : Bool) → length (cond b bytes []) ≤ 16384
+    by true = le_of 16384 (length bytes) e
+    by false = omega arith
+sized_piece l (End m) e = omega arith
+sized_piece l (ReadFail m) e = omega arith
+sized_piece l (WriteFail m) e = omega arith
+sized_piece l Timer e = omega arith
+sized_piece l Stop e = omega arith
+
+pub has_room : (most : ℕ) (w : What) (os : List rule.Open) → most ≤ 8388608 → is_oversized w ≡ false → All (Fits most) os → All (HasRoom w) os
+has_room most w os le sized fit = λ k d lt. let piece = sized_piece (slice_index_or os k d).link w sized in let here = fit k d lt in omega arith
+
+pub not_oversized : (n : ℕ) (h : History) (e : Entry) → is_well_formed n (h ++ e ∷ []) ≡ true → is_oversized e.what ≡ true → ⊥
+not_oversized n h e w over =
+    by e.what ((and_parts (may_follow n h e.what) true (follows_well-append n [] h (e ∷ []) w)).0) over
+  where
+    by : (w : What) → may_follow n h w ≡ true → is_oversized w ≡ true → ⊥
+    by (Piece l bytes) may big =
+      let size = (and_parts (nat_le l.0 n && nat_le 1 (length bytes) && nat_le (length bytes) 16384) (not (is_over l.0 h)) may).0 in
+      let most = (and_parts (nat_le l.0 n && nat_le 1 (length bytes)) (nat_le (length bytes) 16384) size).1 in
+      grind (arith, nat_tests)
+    by (End l) may big = cc
+    by (ReadFail l) may big = cc
+    by (WriteFail l) may big = cc
+    by Timer may big = cc
+    by Stop may big = cc
+
+-- ---- one step
+
+pub moved : (r : Rules) (stage later : Stage) (own rows : List Row) (clock then : Clock) (e : Entry) (next : rule.Reading)
+    → next ≡ next_reading r (seen_stage stage own) e
+    → seen_stage later (learnt own rows) ≡ now_from r stage.count stage.bye own next
+    → then.entries ≡ clock.entries + 1 → then.moment ≡ max clock.moment e.at
+    → then.began ≡ began_at r.side (standing stage [] clock) (seen_stage later []) (max clock.moment e.at)
+    → standing later (learnt own rows) then ≡ standing_after r (standing stage own clock) e
+moved r stage later own rows clock then e next next_is stage_is entries moment began =
+    let now : seen_stage later (learnt own rows) ≡ now_after r (seen_stage stage own) (next_reading r (seen_stage stage own) e) = stage_is ∙ ap (now_from r stage.count stage.bye own) next_is in
+    ap₂ (λ (n m : ℕ). record { stage = seen_stage later (learnt own rows); entries = n; moment = m; began = then.began }) entries moment
+    ∙ ap (λ b. record { stage = seen_stage later (learnt own rows); entries = clock.entries + 1; moment = max clock.moment e.at; began = b }) began
+    ∙ ap (λ (s : Now). standing_by r.side (standing stage own clock) s (max clock.moment e.at)) now
+
+pub first_stage : (r : Rules) (now : rule.Reading) → now_from r 0 false [] now ≡ now_of r now
+first_stage r now = let none : 0 + length now.done ≡ length now.done = omega arith in ap (λ n. record (now_of r now) { count = n }) none
+
+pub or_none : (o : Option Ending) → or_else o None ≡ o
+or_none None = refl
+or_none (Some x) = refl

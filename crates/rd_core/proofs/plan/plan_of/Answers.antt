@@ -1,0 +1,18 @@
+use Rattle.std.proofs.Common.{ap, ◌∙◌}
+use Rattle.std.specs.List.{flat_map}
+use Rattle.rd_rules.specs.Exchange as rule
+use Rattle.rd_core.specs.declared.exchange.DoneExchange.{DoneExchange}
+use Rattle.rd_core.specs.Seen.{rules_of, seen_front}
+use Rattle.std.proofs.Common.{◌-◌}
+use Rattle.rd_core.proofs.Planned.{stage_is}
+use Rattle.rd_core.proofs.plan.plan_of.Goals as goal
+
+pub returns-clause-stage : goal.returns-clause-stage
+returns-clause-stage g c =
+    let grammar = g.D.Dialect.grammar c.args.dialect.now in
+    let limits = c.args.setup.now.limits in
+    stage_is (rules_of grammar c.args.setup.now) c.args.before.count c.args.before.bye c.args.own.now c.in_ok-rows.rows c.in_ok-reading.reading c.stage_of-stage.result
+      (rule.read grammar limits.mask (limits.exchanges_max - c.args.before.count) (seen_front c.args.front))
+      c.in_ok-reading.ensures.reads c.in_ok-reading.ensures.spare c.requires.count
+      c.stage_of-stage.ensures.count c.stage_of-stage.ensures.bye c.stage_of-stage.ensures.left c.stage_of-stage.ensures.out
+      (c.in_ok-rows.ensures ∙ ap (flat_map (λ (x : DoneExchange). x.replies.rows)) c.as_slice.ensures.value) c.in_ok-reading.ensures.rows

@@ -1,0 +1,39 @@
+-- What is true of all that a session keeps.
+use Rattle.std.specs.Prelude.{◌≡◌, ℕ, Bool, false, nat_lt, ◌≤◌, ◌<◌, length, Option, None}
+use Rattle.std.specs.List.{All}
+use Rattle.rd_base.specs.declared.values.What.{What}
+use Rattle.rd_base.specs.declared.values.What.TheVariants.{Piece, End, ReadFail, WriteFail, Timer, Stop}
+use Rattle.rd_base.specs.declared.values.Side.TheVariants.{Incoming}
+use Rattle.rd_base.specs.declared.values.Ending.{Ending}
+use Rattle.rd_base.specs.Limits.{AreLimits}
+use Rattle.rd_dialect.specs.Grammar.{Grammar}
+use Rattle.rd_rules.specs.Exchange as rule
+use Rattle.rd_core.specs.declared.setup.Setup.{Setup}
+use Rattle.rd_core.specs.declared.stage.Stage.{Stage}
+use Rattle.rd_core.specs.Stages.{HasAsked}
+
+-- a piece is longer than any that a link gives
+abbrev pub is_oversized : What → Bool
+is_oversized (Piece l bytes) = nat_lt 16384 (length bytes)
+is_oversized (End l) = false
+is_oversized (ReadFail l) = false
+is_oversized (WriteFail l) = false
+is_oversized Timer = false
+is_oversized Stop = false
+
+-- a link has no more open bytes than its limit
+abbrev pub Fits : ℕ → rule.Open → Type 0
+Fits most o = length o.bytes ≤ most
+
+-- a live session has room for one entry more
+pub record HasMore (setup : Setup) (stage : Stage) (entries : ℕ) : Type 0 where
+  pub asking : All (Fits setup.limits.unit_max) stage.left.asking.items
+  pub answering : All (Fits setup.limits.unit_max) stage.left.answering.items
+  pub room : entries < 1048576
+
+pub record IsKept (g : Grammar) (setup : Setup) (stage : Stage) (entries : ℕ) (ending : Option Ending) : Type 0 where
+  pub limits : AreLimits setup.limits
+  pub incoming : setup.side ≡ Incoming
+  pub count : stage.count ≤ setup.limits.exchanges_max
+  pub asked : HasAsked g stage.out
+  pub more : ending ≡ None → HasMore setup stage entries

@@ -1,0 +1,255 @@
+ghost use Rattle.std.specs.Prelude.{◌≡◌, ◌≤◌, ◌<◌, ◌+◌, ◌++◌, [], ◌∷◌, List, ℕ, None, Some, true, OnOk, OnErr, IfOk, false, is_some};
+ghost use Rattle.rd_base.specs.declared.values.Side.TheVariants.{Incoming};
+ghost use Rattle.rd_base.specs.Limits.{AreLimits};
+ghost use Rattle.rd_base.specs.History.{Entry, is_well_formed, is_timer};
+ghost use Rattle.rd_rules.specs.Exchange.{Rules};
+ghost use Rattle.rd_rules.specs.Given.{learnt};
+ghost use Rattle.rd_rules.specs.Sent.{final};
+ghost use Rattle.rd_rules.specs.Trouble.{or_else, full_log_at};
+ghost use Rattle.rd_core.specs.Faults.{fault_by};
+ghost use Rattle.rd_core.specs.Seen.{rules_of};
+ghost use Rattle.rd_core.specs.Clocks.{standing, entry_of};
+ghost use Rattle.rd_core.specs.Standing.{Seen, IsAt, Goes, Steps, SendsMore, late_at};
+ghost use Rattle.rd_core.specs.Kept.{IsKept, HasMore, is_oversized};
+
+use crate::clock::Clock;
+use crate::faults::{fault, unsolicited};
+use crate::plan::{Before, Plan, plan_of};
+use crate::read::grow_front;
+use crate::setup::Setup;
+use crate::stage::Stage;
+use crate::start::start_front;
+use crate::trouble::or_else;
+use crate::waits::{clock_after, full_log, late};
+use rd_base::{Ending, Happening, NoMemory, Rows, Sends, What};
+use rd_dialect::Dialect;
+use rd_token_map::OwnRows;
+use std::alloc::Global;
+use std::marker::Model;
+
+/// One session of a single link with its copies.
+#[derive(Drop)]
+pub struct Session<D: Dialect> {
+    alloc: Global,
+    dialect: D,
+    setup: Setup,
+    stage: Stage,
+    own: OwnRows,
+    clock: Clock,
+    ending: Option<Ending>,
+}
+
+impl<D: Dialect> Model for Session<D> {
+    ghost use Rattle.rd_core.specs.Clocks.{standing};
+    ghost use Rattle.rd_core.specs.Standing.{Seen};
+    ghost use Rattle.rd_core.specs.Kept.{IsKept};
+
+    ghost Value = { Seen D };
+
+    ghost view = { λ a. record { dialect = a.dialect; setup = a.setup; at = standing a.stage a.own a.clock; ending = a.ending } };
+
+    ghost invariant = { λ a. IsKept (D.grammar a.dialect) a.setup a.stage a.clock.entries a.ending };
+}
+
+impl<D: Dialect> Session<D> {
+    /// A session of which nothing was heard yet.
+    pub fn new(alloc: Global, dialect: D, setup: Setup) -> Result<Session<D>, NoMemory>
+        requires limits { AreLimits setup.limits }
+        requires incoming { setup.side ≡ Incoming }
+        ensures dialect { IfOk result (λ s. s.dialect ≡ dialect) }
+        ensures setup { IfOk result (λ s. s.setup ≡ setup) }
+        ensures at { IfOk result (λ s. IsAt (rules_of (D.grammar dialect) setup) s []) }
+    {
+        let front = start_front(alloc, &dialect, &setup)?;
+        let mut own = OwnRows::new(alloc)?;
+        let told = Rows::new(alloc);
+        let before = Before {
+            count: 0,
+            bye: false,
+            was_out: false,
+        };
+        let plan = plan_of(alloc, &dialect, &setup, before, own.rows(), &told, front)?;
+        let Plan {
+            stage,
+            rows,
+            trouble,
+            sends: _,
+        } = plan;
+        learn_all(&mut own, &rows);
+        Ok(Session {
+            alloc,
+            dialect,
+            setup,
+            stage,
+            own,
+            clock: Clock {
+                entries: 0,
+                moment: 0,
+                began: 0,
+            },
+            ending: trouble,
+        })
+    }
+
+    /// How the session has ended. None while it is live.
+    pub fn ending(&self) -> Option<Ending>
+        ensures seen { result ≡ self.now.ending }
+        ensures ending { (h : List Entry) → IsAt (rules_of (D.grammar self.now.dialect) self.now.setup) self.now h → result ≡ final (rules_of (D.grammar self.now.dialect) self.now.setup) h }
+    {
+        self.ending
+    }
+
+    /// One step, with the rows told to it. After an ending, and of a piece past 16,384 bytes, nothing is
+    /// taken. After want of memory the session is as before, and nothing is sent.
+    pub fn take(&mut self, happening: &Happening, told: &Rows) -> Result<Sends, NoMemory>
+        ensures dialect { self.new.dialect ≡ self.old.dialect }
+        ensures setup { self.new.setup ≡ self.old.setup }
+        ensures at { OnOk result ((h : List Entry) → is_well_formed self.old.setup.limits.copies (h ++ entry_of happening.now told.now ∷ []) ≡ true
+            → IsAt (rules_of (D.grammar self.old.dialect) self.old.setup) self.old h
+            → IsAt (rules_of (D.grammar self.old.dialect) self.old.setup) self.new (h ++ entry_of happening.now told.now ∷ [])) }
+        ensures sent { IfOk result (λ sends. (h : List Entry) → is_well_formed self.old.setup.limits.copies (h ++ entry_of happening.now told.now ∷ []) ≡ true
+            → IsAt (rules_of (D.grammar self.old.dialect) self.old.setup) self.old h
+            → SendsMore (rules_of (D.grammar self.old.dialect) self.old.setup) h (entry_of happening.now told.now) sends) }
+        ensures over { OnOk result (is_some self.old.ending ≡ true → self.new ≡ self.old) }
+        ensures err { OnErr result (self.new ≡ self.old) }
+    {
+        if self.ending.is_some() {
+            return Ok(Sends::new(self.alloc));
+        }
+        if is_oversized(&happening.what) {
+            return Ok(Sends::new(self.alloc));
+        }
+        self.go(happening, told)
+    }
+
+    fn go(&mut self, happening: &Happening, told: &Rows) -> Result<Sends, NoMemory>
+        requires live { self.old.ending ≡ None }
+        requires sized { is_oversized happening.now.what ≡ false }
+        ensures dialect { self.new.dialect ≡ self.old.dialect }
+        ensures setup { self.new.setup ≡ self.old.setup }
+        ensures steps { IfOk result (λ sends. Steps (rules_of (D.grammar self.old.dialect) self.old.setup) self.old.at (entry_of happening.now told.now) self.new.at self.new.ending sends) }
+        ensures err { OnErr result (self.new ≡ self.old) }
+    {
+        match unsolicited(self.alloc, &self.dialect, &self.stage, &happening.what)? {
+            Some(ending) => {
+                self.ending = Some(ending);
+                Ok(Sends::new(self.alloc))
+            }
+            None => self.proceed(happening, told),
+        }
+    }
+
+    fn proceed(&mut self, happening: &Happening, told: &Rows) -> Result<Sends, NoMemory>
+        requires live { self.old.ending ≡ None }
+        requires sized { is_oversized happening.now.what ≡ false }
+        ensures dialect { self.new.dialect ≡ self.old.dialect }
+        ensures setup { self.new.setup ≡ self.old.setup }
+        ensures goes { IfOk result (λ sends. Goes (rules_of (D.grammar self.old.dialect) self.old.setup) self.old.at (entry_of happening.now told.now) self.new.at self.new.ending sends) }
+        ensures err { OnErr result (self.new ≡ self.old) }
+    {
+        let Move {
+            stage,
+            rows,
+            clock,
+            ending,
+            sends,
+        } = move_of(
+            self.alloc,
+            &self.dialect,
+            &self.setup,
+            &self.stage,
+            self.own.rows(),
+            self.clock,
+            happening,
+            told,
+        )?;
+        learn_all(&mut self.own, &rows);
+        self.stage = stage;
+        self.clock = clock;
+        self.ending = ending;
+        Ok(sends)
+    }
+}
+
+/// All that a step changes, worked out before it does.
+#[derive(Drop)]
+struct Move {
+    stage: Stage,
+    rows: Rows,
+    clock: Clock,
+    ending: Option<Ending>,
+    sends: Sends,
+}
+
+/// What a happening that withholds nothing does to a live session.
+fn move_of<D: Dialect>(
+    alloc: Global,
+    dialect: &D,
+    setup: &Setup,
+    stage: &Stage,
+    own: &Rows,
+    clock: Clock,
+    happening: &Happening,
+    told: &Rows,
+) -> Result<Move, NoMemory>
+    requires kept { IsKept (D.grammar dialect.now) setup.now stage.now clock.entries None }
+    requires sized { is_oversized happening.now.what ≡ false }
+    ensures goes { IfOk result (λ m. Goes (rules_of (D.grammar dialect.now) setup.now) (standing stage.now own.now clock) (entry_of happening.now told.now) (standing m.stage (learnt own.now m.rows) m.clock) m.ending m.sends) }
+    ensures kept { IfOk result (λ m. IsKept (D.grammar dialect.now) setup.now m.stage m.clock.entries m.ending) }
+{
+    let what = &happening.what;
+    let front = grow_front(alloc, &stage.left, what)?;
+    let before = Before {
+        count: stage.count,
+        bye: stage.bye,
+        was_out: stage.out.is_some(),
+    };
+    let Plan {
+        stage: later,
+        rows,
+        trouble,
+        sends,
+    } = plan_of(alloc, dialect, setup, before, own, told, front)?;
+    let clock = clock_after(setup.side, stage, clock, &later, happening.at);
+    let ending = ending_of(setup, what, &later, clock, trouble);
+    Ok(Move {
+        stage: later,
+        rows,
+        clock,
+        ending,
+        sends,
+    })
+}
+
+/// How a session has ended that stands there.
+fn ending_of(
+    setup: &Setup,
+    what: &What,
+    stage: &Stage,
+    clock: Clock,
+    trouble: Option<Ending>,
+) -> Option<Ending>
+    ensures { result ≡ or_else (or_else (fault_by setup.now.limits.copies what.now) (late_at setup.now.side setup.now.limits (is_timer what.now) (standing stage.now [] clock))) (or_else trouble (full_log_at clock.entries)) }
+{
+    let first = or_else(fault(&setup.limits, what), late(setup, what, stage, clock));
+    or_else(first, or_else(trouble, full_log(clock.entries)))
+}
+
+/// A piece has at most 16,384 bytes.
+fn is_oversized(what: &What) -> bool
+    ensures { result ≡ is_oversized what.now }
+{
+    match what {
+        What::Piece(_, bytes) => bytes.len() > 16_384,
+        _ => false,
+    }
+}
+
+/// Learns rows, in their order.
+fn learn_all(own: &mut OwnRows, rows: &Rows)
+    ensures { own.new ≡ learnt own.old rows.now }
+{
+    for place in 0..rows.len() {
+        own.learn(rows.at(place));
+    }
+}

@@ -1,0 +1,4 @@
+mod Parts
+mod Numbers
+mod Lines
+mod Kept

@@ -1,0 +1,116 @@
+-- The language of scripts: what a text stands for, or which of its lines is the first bad one.
+use Rattle.std.specs.Prelude.{ℕ, ◌+◌, ◌^◌, ◌==◌, ◌&&◌, ◌||◌, not, nat_lt, nat_le, Bool, false, if◌then◌else◌, List, [], ◌∷◌, ◌++◌, length, codes, bytes_eq, Option, Some, None, option_map, option_and_then, Result, Ok, Err}
+use Rattle.std.specs.List.{slice_split, list_all}
+use Rattle.std.specs.Result.{result_ok}
+use Rattle.std.specs.Char.{is_ascii_digit}
+use Rattle.std.specs.Str.Parse.{digits_value}
+use Rattle.hex.specs.Hex.{decode_of}
+use Rattle.rd_base.specs.History.{Entry, History, may_follow}
+use Rattle.rd_base.specs.declared.values.Link.{Link}
+use Rattle.rd_base.specs.declared.values.Side.{Side}
+use Rattle.rd_base.specs.declared.values.Side.TheVariants.{Incoming}
+use Rattle.rd_base.specs.declared.values.What.{What}
+use Rattle.rd_base.specs.declared.values.What.TheVariants.{Piece, End}
+
+-- what a script stands for: the side of its session, and what happened to it
+pub record ScriptState : Type 0 where
+  pub side : Side
+  pub entries : History
+
+-- the parts that line feeds end, and the part behind the last one
+abbrev pub parts_of : List ℕ → List (List ℕ)
+parts_of text = slice_split (λ b. b == 10) text
+
+-- words are joined by single spaces
+abbrev pub words_of : List ℕ → List (List ℕ)
+words_of line = slice_split (λ b. b == 32) line
+
+-- decimal digits without a leading zero, `0` itself excepted
+abbrev pub is_numeral : List ℕ → Bool
+is_numeral [] = false
+is_numeral (digit ∷ []) = is_ascii_digit digit
+is_numeral (first ∷ second ∷ more) = not (first == 48) && list_all is_ascii_digit (first ∷ second ∷ more)
+
+-- the number that a word stands for, at most 2^64-1
+abbrev pub number_of : List ℕ → Option ℕ
+number_of word = if is_numeral word && nat_lt (digits_value 10 word) (2 ^ 64) then Some (digits_value 10 word) else None
+
+-- `0` to `9` and `a` to `f`
+abbrev pub is_lower_hex_digit : ℕ → Bool
+is_lower_hex_digit c = (nat_le 48 c && nat_le c 57) || (nat_le 97 c && nat_le c 102)
+
+-- the bytes that a word of lower-case hexadecimal digits stands for
+abbrev pub bytes_of_hex : List ℕ → Option (List ℕ)
+bytes_of_hex word = if list_all is_lower_hex_digit word then result_ok (decode_of word) else None
+
+-- the link that a word names, where n is the greatest
+abbrev pub link_of : ℕ → List ℕ → Option Link
+link_of n word = option_and_then (λ l. if nat_le l n then Some (record { 0 = l }) else None) (number_of word)
+
+abbrev pub piece_of_words : ℕ → List (List ℕ) → Option What
+piece_of_words n [] = None
+piece_of_words n (link ∷ []) = None
+piece_of_words n (link ∷ hex ∷ []) = option_and_then (λ l. option_map (λ bytes. Piece l bytes) (bytes_of_hex hex)) (link_of n link)
+piece_of_words n (link ∷ hex ∷ more ∷ others) = None
+
+abbrev pub end_of_words : ℕ → List (List ℕ) → Option What
+end_of_words n [] = None
+end_of_words n (link ∷ []) = option_map (λ l. End l) (link_of n link)
+end_of_words n (link ∷ more ∷ others) = None
+
+-- what happened, by the words behind a line's stamp; each kind of line is a case
+abbrev pub what_of : ℕ → List (List ℕ) → Option What
+what_of n [] = None
+what_of n (name ∷ words) =
+    if bytes_eq name (codes "piece") then piece_of_words n words
+    else if bytes_eq name (codes "end") then end_of_words n words
+    else None
+
+abbrev pub with_stamp : Option ℕ → Option What → Option Entry
+with_stamp stamp what = option_and_then (λ at. option_map (λ w. record { at = at; what = w; told = [] }) what) stamp
+
+-- the entry of a line: a stamp, and what happened
+abbrev pub entry_of : ℕ → List (List ℕ) → Option Entry
+entry_of n [] = None
+entry_of n (stamp ∷ words) = with_stamp (number_of stamp) (what_of n words)
+
+-- the side that the first line names
+abbrev pub side_of : List (List ℕ) → Option Side
+side_of [] = None
+side_of (name ∷ []) = None
+side_of (name ∷ side ∷ []) = if bytes_eq name (codes "side") && bytes_eq side (codes "incoming") then Some Incoming else None
+side_of (name ∷ side ∷ more ∷ others) = None
+
+-- an entry may stand behind these, where n is the number of copies
+abbrev pub may_stand : ℕ → History → Entry → Bool
+may_stand n seen e = nat_lt (length seen) 1048576 && may_follow n seen e.what
+
+abbrev pub admitted : ℕ → History → Option Entry → Option Entry
+admitted n seen None = None
+admitted n seen (Some e) = if may_stand n seen e then Some e else None
+
+abbrev pub with_entry : Option Entry → ℕ → (Entry → Result History ℕ) → Result History ℕ
+with_entry None number go = Err number
+with_entry (Some e) number go = go e
+
+-- the entries of the lines from this number on, behind these, or the number of the first bad line.
+-- The last part stands behind the last line feed: it is a bad line where it has bytes
+abbrev pub read_lines : ℕ → ℕ → History → List (List ℕ) → Result History ℕ
+read_lines n number seen [] = Err number
+read_lines n number seen (rest ∷ []) = if length rest == 0 then Ok seen else Err number
+read_lines n number seen (line ∷ next ∷ more) =
+    with_entry (admitted n seen (entry_of n (words_of line))) number (λ e. read_lines n (number + 1) (seen ++ e ∷ []) (next ∷ more))
+
+abbrev pub with_side : Option Side → Result History ℕ → Result ScriptState ℕ
+with_side None entries = Err 1
+with_side (Some side) (Err number) = Err number
+with_side (Some side) (Ok entries) = Ok (record { side = side; entries = entries })
+
+abbrev pub read_parts : ℕ → List (List ℕ) → Result ScriptState ℕ
+read_parts n [] = Err 1
+read_parts n (first ∷ []) = Err 1
+read_parts n (first ∷ next ∷ more) = with_side (side_of (words_of first)) (read_lines n 2 [] (next ∷ more))
+
+-- what a text stands for among n copies, or the number of its first bad line, from 1
+abbrev pub script_of : ℕ → List ℕ → Result ScriptState ℕ
+script_of n text = read_parts n (parts_of text)

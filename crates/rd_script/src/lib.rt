@@ -1,0 +1,14 @@
+// Scripts of sessions, and the lines of a transcript.
+#![tactic(auto)]
+
+mod cut;
+mod line;
+mod printed;
+mod reading;
+mod script;
+#[cfg(test)]
+mod tests;
+mod words;
+
+pub use printed::{last_line, send_line};
+pub use script::{Script, ScriptRefusal, read_script};

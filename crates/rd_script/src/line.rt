@@ -1,0 +1,75 @@
+ghost use Rattle.std.specs.Prelude.{◌≡◌, IfOk, option_map};
+ghost use Rattle.rd_script.specs.Script.{entry_of, what_of, piece_of_words, end_of_words, side_of, words_of};
+ghost use Rattle.rd_script.specs.Seen.{entry_without_rows};
+
+use crate::cut::{cut_at_byte, only_word};
+use crate::words::{read_hex, read_link, read_number};
+use rd_base::{Happening, NoMemory, Side, What};
+use std::alloc::Global;
+
+/// The side that the first line names.
+pub fn read_side(line: &[u8]) -> Option<Side>
+    ensures { result ≡ side_of (words_of line.now) }
+{
+    let (name, rest) = cut_at_byte(line, b' ')?;
+    let side = only_word(rest)?;
+    if name == b"side".as_slice() && side == b"incoming".as_slice() {
+        Some(Side::Incoming)
+    } else {
+        None
+    }
+}
+
+/// The happening of a line.
+pub fn read_happening(alloc: Global, copies: u8, line: &[u8]) -> Result<Option<Happening>, NoMemory>
+    ensures { IfOk result (λ happening. option_map entry_without_rows happening ≡ entry_of copies (words_of line.now)) }
+{
+    let Some((stamp, words)) = cut_at_byte(line, b' ') else {
+        return Ok(None);
+    };
+    let Some(at) = read_number(stamp) else {
+        return Ok(None);
+    };
+    let what = read_what(alloc, copies, words)?;
+    Ok(what.map(|what| Happening { at, what }))
+}
+
+/// What happened, by the words behind a line's stamp.
+fn read_what(alloc: Global, copies: u8, words: &[u8]) -> Result<Option<What>, NoMemory>
+    ensures { IfOk result (λ what. what ≡ what_of copies (words_of words.now)) }
+{
+    let Some((name, rest)) = cut_at_byte(words, b' ') else {
+        return Ok(None);
+    };
+    if name == b"piece".as_slice() {
+        read_piece(alloc, copies, rest)
+    } else if name == b"end".as_slice() {
+        Ok(read_end(copies, rest))
+    } else {
+        Ok(None)
+    }
+}
+
+/// A piece, by the words behind its name: a link and its bytes.
+fn read_piece(alloc: Global, copies: u8, words: &[u8]) -> Result<Option<What>, NoMemory>
+    ensures { IfOk result (λ what. what ≡ piece_of_words copies (words_of words.now)) }
+{
+    let Some((link, rest)) = cut_at_byte(words, b' ') else {
+        return Ok(None);
+    };
+    let Some(hex) = only_word(rest) else {
+        return Ok(None);
+    };
+    let Some(link) = read_link(copies, link) else {
+        return Ok(None);
+    };
+    let bytes = read_hex(alloc, hex)?;
+    Ok(bytes.map(|bytes| What::Piece(link, bytes)))
+}
+
+/// An end, by the words behind its name: a link.
+fn read_end(copies: u8, words: &[u8]) -> Option<What>
+    ensures { result ≡ end_of_words copies (words_of words.now) }
+{
+    Some(What::End(read_link(copies, only_word(words)?)?))
+}
