@@ -1,4 +1,4 @@
-ghost use Rattle.std.specs.Prelude.{◌≡◌, ◌<◌, length, true, IfSome, OnErr};
+ghost use Rattle.std.specs.Prelude.{◌≡◌, true, IfSome, OnErr};
 ghost use Rattle.rd_base.specs.Swap.{shows};
 
 use rd_base::{NoMemory, Row};
@@ -7,7 +7,6 @@ use rd_base::{NoMemory, Row};
 pub trait TokenBook: Drop {
     /// Tells of a row. A refused call changes nothing.
     fn learn(&mut self, row: &Row) -> Result<(), NoMemory>
-        requires { 0 < length row.now }
         ensures err { OnErr result (self.new ≡ self.old) };
 
     /// The first row of the book that shows this word.
@@ -20,17 +19,19 @@ pub trait TokenBook: Drop {
 pub struct NoBook;
 
 impl TokenBook for NoBook {
-    fn learn(&mut self, _row: &Row) -> Result<(), NoMemory>
+    fn learn(&mut self, row: &Row) -> Result<(), NoMemory>
         ensures ok { result ≡ Ok tt }
         ensures err { OnErr result (self.new ≡ self.old) }
     {
+        let _ = row;
         Ok(())
     }
 
-    fn find(&mut self, _word: &[u8]) -> Option<Row>
+    fn find(&mut self, word: &[u8]) -> Option<Row>
         ensures none { result ≡ None }
-        ensures shown { IfSome result (λ row. shows _word.now row ≡ true) }
+        ensures shown { IfSome result (λ row. shows word.now row ≡ true) }
     {
+        let _ = word;
         None
     }
 }

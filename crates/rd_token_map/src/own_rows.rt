@@ -1,4 +1,4 @@
-ghost use Rattle.std.specs.Prelude.{◌≡◌, ◌≤◌, ◌<◌, ◌∷◌, [], length, take, filter, fold, reverse, not, All, IfOk};
+ghost use Rattle.std.specs.Prelude.{◌≡◌, ◌≤◌, ◌<◌, ◌∷◌, [], length, take, filter, fold, reverse, not, IfOk};
 ghost use Rattle.rd_base.specs.OwnRows.{learn_row, one_per_shown};
 ghost use Rattle.rd_base.specs.Swap.{shows};
 ghost use Rattle.rd_token_map.specs.Spares.{HasSpares};
@@ -60,7 +60,6 @@ impl OwnRows {
 
     /// Learns these rows, one after another. Takes no memory.
     pub fn learn_all(&mut self, rows: &Rows)
-        requires { All (λ row. 0 < length row) rows.now }
         ensures learnt { self.new ≡ fold (learn_row 256) self.old rows.now }
         ensures newest { self.old ≡ [] → self.new ≡ take 256 (one_per_shown (reverse rows.now)) }
     {
