@@ -2,7 +2,7 @@
 use Rattle.std.proofs.Common.{◌≡◌, ℕ, zero, suc, ◌+◌, ◌<◌, ◌≤◌, Bool, true, false, cond, not, ◌||◌, List, length, get_or, Option, Some, None, refl, ap, sym, subst, ◌∙◌, ◌⊎◌, inl, inr, arith}
 use Rattle.std.specs.Prelude.{slice_get, nat_lt}
 use Rattle.std.specs.List.{All, position, position_or_len, list_any}
-use Rattle.std.proofs.lemmas.Bool.{ltb-false, not-true, not-false, cases_eq}
+use Rattle.std.proofs.lemmas.Bool.{ltb-false, not-true, not-false, or_parts, cases_eq}
 use Rattle.std.proofs.lemmas.List.Sums.{prefix_len_passes}
 use Rattle.std.proofs.lemmas.Option.{slice_get_within, get_or_from_slice_get}
 use Rattle.rd_base.specs.Token.{Token}
@@ -63,27 +63,38 @@ free_from most lists place (suc count) mask e =
     first p low high (inl is) none later = ap (fault most lists) is ∙ none
     first p low high (inr other) none later = later.none p (omega arith) (omega arith)
 
-position_none : {X : Type 0} (p : X → Bool) (xs : List X) → position p xs ≡ None → All (λ x. p x ≡ false) xs
+pub position_none : {X : Type 0} (p : X → Bool) (xs : List X) → position p xs ≡ None → All (λ x. p x ≡ false) xs
 position_none p xs e = λ k d lt. not-true (p (get_or xs k d)) (prefix_len_passes (λ x. not (p x)) xs k d (omega (arith, ltb-false (position_or_len p xs) (length xs) (short (nat_lt (position_or_len p xs) (length xs)) e))))
   where
     short : (t : Bool) → cond t (Some (position_or_len p xs)) None ≡ None → t ≡ false
     short true e = absurd (cc e)
     short false e = refl
 
--- at a masked place without a fault all tokens are Soft
-masked_soft : (most : MaskLimits) (lists : List (List Token)) (place : ℕ) → fault most lists place ≡ None → is_masked lists place ≡ true → position (λ tokens. not (is_soft (slice_get tokens place))) lists ≡ None
-masked_soft most lists place e is = alone (position (λ tokens. one_alone (slice_get tokens place) (token_at lists 0 place)) lists) e
+-- what a masked place without a fault says
+pub record IsPassed (most : MaskLimits) (lists : List (List Token)) (place : ℕ) : Type 0 where
+  pub few : nat_lt most.places (length (masked_below lists (suc place))) ≡ false
+  pub short : list_any (λ tokens. is_long most.bytes (slice_get tokens place)) lists ≡ false
+  pub soft : position (λ tokens. not (is_soft (slice_get tokens place))) lists ≡ None
+
+pub masked_passed : (most : MaskLimits) (lists : List (List Token)) (place : ℕ) → fault most lists place ≡ None → is_masked lists place ≡ true → IsPassed most lists place
+masked_passed most lists place e is = alone (position (λ tokens. one_alone (slice_get tokens place) (token_at lists 0 place)) lists) e
   where
     least : (o : Option ℕ) → least_disagrees place o ≡ None → o ≡ None
     least None e = refl
     least (Some copy) e = absurd (cc e)
 
-    masked : (t : Bool) → cond t (Some (Noise place)) (least_disagrees place (position (λ tokens. not (is_soft (slice_get tokens place))) lists)) ≡ None → position (λ tokens. not (is_soft (slice_get tokens place))) lists ≡ None
-    masked true e = absurd (cc e)
-    masked false e = least (position (λ tokens. not (is_soft (slice_get tokens place))) lists) e
+    masked : (t : Bool) → (nat_lt most.places (length (masked_below lists (suc place))) || list_any (λ tokens. is_long most.bytes (slice_get tokens place)) lists) ≡ t → cond t (Some (Noise place)) (least_disagrees place (position (λ tokens. not (is_soft (slice_get tokens place))) lists)) ≡ None → IsPassed most lists place
+    masked true noise e = absurd (cc e)
+    masked false noise e =
+        let parts = or_parts (nat_lt most.places (length (masked_below lists (suc place)))) (list_any (λ tokens. is_long most.bytes (slice_get tokens place)) lists) noise in
+        record {
+          few = parts.0;
+          short = parts.1;
+          soft = least (position (λ tokens. not (is_soft (slice_get tokens place))) lists) e;
+        }
 
-    alone : (o : Option ℕ) → or_fault (least_disagrees place o) (cond (is_masked lists place) (masked_fault most lists place) (plain_fault lists place)) ≡ None → position (λ tokens. not (is_soft (slice_get tokens place))) lists ≡ None
-    alone None e = masked (nat_lt most.places (length (masked_below lists (suc place))) || list_any (λ tokens. is_long most.bytes (slice_get tokens place)) lists) (sym (ap (λ t. cond t (masked_fault most lists place) (plain_fault lists place)) is) ∙ e)
+    alone : (o : Option ℕ) → or_fault (least_disagrees place o) (cond (is_masked lists place) (masked_fault most lists place) (plain_fault lists place)) ≡ None → IsPassed most lists place
+    alone None e = masked (nat_lt most.places (length (masked_below lists (suc place))) || list_any (λ tokens. is_long most.bytes (slice_get tokens place)) lists) refl (sym (ap (λ t. cond t (masked_fault most lists place) (plain_fault lists place)) is) ∙ e)
     alone (Some copy) e = absurd (cc e)
 
 -- all copies have a Soft token at each masked place of an agreed verdict
@@ -94,5 +105,5 @@ agreed_soft most lists mask index place agreed at =
     let P : ℕ → Type 0 = λ p. (p < n) × (is_masked lists p ≡ true) in
     let all : All P mask = subst (λ (m : List ℕ). All P m) free.masked (masked_all lists n) in
     let here : P place = subst P (get_or_from_slice_get mask index place 0 at) (all index 0 (slice_get_within mask index place at)) in
-    let none = masked_soft most lists place (free.none place (omega arith) here.0) here.1 in
+    let none = (masked_passed most lists place (free.none place (omega arith) here.0) here.1).soft in
     λ k d lt. not-false (is_soft (slice_get (get_or lists k d) place)) (position_none (λ tokens. not (is_soft (slice_get tokens place))) lists none k d lt)

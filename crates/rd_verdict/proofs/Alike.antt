@@ -16,7 +16,7 @@ kind_self Soft = refl
 kind_self Firm = refl
 kind_self Name = refl
 
-kind_is : (j k : TokenKind) → same_kind j k ≡ true → j ≡ k
+pub kind_is : (j k : TokenKind) → same_kind j k ≡ true → j ≡ k
 kind_is Soft Soft e = refl
 kind_is Soft Firm e = absurd (cc e)
 kind_is Soft Name e = absurd (cc e)

@@ -1,4 +1,5 @@
 pub mod AgreedPlaces
+pub mod Agreements
 pub mod Alike
 pub mod Places
 pub mod RowMade

@@ -1,1 +1,2 @@
 pub mod LiesIn
+pub mod Agreement

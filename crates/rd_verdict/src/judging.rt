@@ -1,7 +1,8 @@
-ghost use Rattle.std.specs.Prelude.{◌≡◌, ◌≤◌, ◌<◌, ◌^◌, [], List, ℕ, true, not, length, slice_get, IfSome};
+ghost use Rattle.std.specs.Prelude.{◌≡◌, ◌≤◌, ◌<◌, ◌^◌, [], List, ℕ, true, not, length, slice_get, IfSome, IsTrue};
 ghost use Rattle.std.specs.List.{position, list_any, list_all};
 ghost use Rattle.rd_base.specs.Limits.{AreMaskLimits};
-ghost use Rattle.rd_base.specs.Verdicts.{verdict, longest, fault, masked_fault, plain_fault, masked_below, is_masked, one_alone, token_at, least_disagrees, same, is_soft, is_long};
+ghost use Rattle.rd_base.specs.Verdicts.{verdict, is_agreed, mask_of, longest, fault, masked_fault, plain_fault, masked_below, is_masked, one_alone, token_at, least_disagrees, same, is_soft, is_long};
+ghost use Rattle.rd_verdict.specs.Agreement.{IsAgreement};
 
 use crate::copies::Copies;
 use crate::tokens::Tokens;
@@ -14,6 +15,21 @@ pub fn judge(copies: &Copies, most: MaskLimits) -> Verdict
     ensures { result ≡ verdict most copies.now }
 {
     judge_lists(copies.lists(), most)
+}
+
+/// Whether the copies agree under these limits. Where they do, they have the same token at each place that isn't
+/// masked, and at a masked place each has a Soft token that is short enough to be.
+pub fn agree(copies: &Copies, most: MaskLimits) -> bool
+    requires three { 3 ≤ length copies.now }
+    requires limits { AreMaskLimits most }
+    ensures verdict { result ≡ is_agreed (verdict most copies.now) }
+    ensures agreement { IsTrue result → IsAgreement most copies.now (mask_of (verdict most copies.now)) }
+{
+    match judge(copies, most) {
+        Verdict::Agreed(_) => true,
+        Verdict::Disagree { .. } => false,
+        Verdict::Noise { .. } => false,
+    }
 }
 
 fn judge_lists(lists: &[Tokens], most: MaskLimits) -> Verdict

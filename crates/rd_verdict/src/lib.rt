@@ -9,7 +9,7 @@ mod tokens;
 
 pub use agreed::rows_of;
 pub use copies::Copies;
-pub use judging::judge;
+pub use judging::{agree, judge};
 pub use spans::Spans;
 
 #[cfg(test)]

@@ -1,7 +1,7 @@
 ghost use Rattle.std.specs.Prelude.{◌≡◌, ◌≤◌, ◌<◌, ◌^◌, ◌+◌, length, All, IfOk, OnOk};
 ghost use Rattle.rd_verdict.specs.LiesIn.{LiesIn};
 
-use crate::{Copies, Spans, judge, rows_of};
+use crate::{Copies, Spans, agree, judge, rows_of};
 use rd_base::{Bytes, MaskLimits, NoMemory, TokenKind, TokenSpan, Verdict, cut_at};
 use std::alloc::{AllocError, Global};
 use std::process::Abort;
@@ -91,6 +91,7 @@ fn judges_words(rt: HostRuntime) -> Result<(), Fail> {
         let copies = copies_of(&rt, alloc, texts)?;
         let verdict = judge(&copies, MOST);
         assert_eq!(rt; shown(alloc, &verdict)?.as_str(), want);
+        assert_eq!(rt; agree(&copies, MOST), want.starts_with("agreed"));
     }
     Ok(())
 }
