@@ -19,12 +19,15 @@ pub struct Script {
 }
 
 impl Model for Script {
+    ghost use Rattle.std.specs.Prelude.{◌≤◌, length};
     ghost use Rattle.rd_script.specs.Script.{ScriptState};
     ghost use Rattle.rd_script.specs.Seen.{entries_of};
 
     ghost Value = { ScriptState };
 
     ghost view = { λ s. record { side = s.side; entries = entries_of s.happenings.items } };
+
+    ghost invariant = { λ s. length s.happenings.items ≤ 1048576 };
 }
 
 impl Script {
@@ -36,7 +39,8 @@ impl Script {
 
     /// The number of happenings, at most 1,048,576.
     pub fn len(&self) -> usize
-        ensures { result ≡ length self.now.entries }
+        ensures count { result ≡ length self.now.entries }
+        ensures most { result ≤ 1048576 }
     {
         self.happenings.len()
     }
@@ -76,7 +80,6 @@ pub fn read_script(alloc: Global, copies: u8, text: &[u8]) -> Result<Script, Scr
     ensures bad_line { (number : ℕ) → result ≡ Err (ScriptRefusal.BadLine number) → script_of copies text.now ≡ Err number }
     ensures well_formed { IfOk result (λ script. is_well_formed copies script.entries ≡ true) }
     ensures kinds { IfOk result (λ script. All IsPieceOrEnd script.entries) }
-    ensures few { IfOk result (λ script. length script.entries ≤ 1048576) }
 {
     let Some((first, rest)) = cut_at_byte(text, b'\n') else {
         return Err(ScriptRefusal::BadLine(1));

@@ -1,8 +1,9 @@
-use Rattle.std.proofs.Common.{◌≡◌, Err, ap}
+use Rattle.std.proofs.Common.{◌≡◌, ◌≤◌, Err, length, ap, arith}
 use Rattle.rd_script.specs.declared.script.ScriptRefusal.TheVariants.{BadLine}
 use Rattle.rd_script.specs.Script.{parts_of}
-use Rattle.rd_script.specs.Seen.{entries_of}
+use Rattle.rd_script.specs.Seen.{entries_of, entry_without_rows}
 use Rattle.std.proofs.lemmas.Result.{err_from_is_err_and}
+use Rattle.std.proofs.lemmas.List.{length-map}
 use Rattle.rd_script.proofs.Lines.{bad_lines}
 use Rattle.rd_script.proofs.Kept.{well_formed, kinds, few}
 use Rattle.rd_script.proofs.script.read_script.Goals as goal
@@ -20,6 +21,10 @@ pub returns-clause-kinds : goal.returns-clause-kinds
 returns-clause-kinds c =
     kinds c.args.copies 2 (parts_of c.in-Some.rest.now) (entries_of c.in_ok-happenings.happenings.items) c.in_ok-happenings.ensures.happenings
 
-pub returns-clause-few : goal.returns-clause-few
-returns-clause-few c =
-    few c.args.copies 2 (parts_of c.in-Some.rest.now) (entries_of c.in_ok-happenings.happenings.items) c.in_ok-happenings.ensures.happenings
+pub invariant_of-result : goal.invariant_of-result
+invariant_of-result c =
+    let items = c.in_ok-happenings.happenings.items in
+    let most : length (entries_of items) ≤ 1048576 = few c.args.copies 2 (parts_of c.in-Some.rest.now) (entries_of items) c.in_ok-happenings.ensures.happenings in
+    let same = length-map items entry_without_rows in
+    let here : length items ≤ 1048576 = omega arith in
+    here

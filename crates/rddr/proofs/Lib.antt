@@ -1,0 +1,5 @@
+mod Held
+mod Sent
+mod Steps
+mod Ruled
+mod Outcomes

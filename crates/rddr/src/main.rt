@@ -1,0 +1,37 @@
+//! Replays recorded sessions.
+#![tactic(auto)]
+
+mod disk_files;
+mod replay;
+mod run_script;
+mod std_sink;
+#[cfg(test)]
+mod tests;
+mod writing;
+
+use disk_files::DiskFiles;
+use replay::replay_main;
+use std::alloc::{AllocError, Global};
+use std::io::ErrorKind;
+use std::process::ExitCode;
+use std::{env, io};
+use std_sink::StdSink;
+
+fn main(rt: HostRuntime) -> ExitCode {
+    let mut files = DiskFiles::new(&rt);
+    let mut out = StdSink::new(io::writer(&rt));
+    let status = match words(&rt) {
+        Ok(words) => replay_main(rt.alloc(), words.as_slice(), &mut files, &mut out),
+        Err(AllocError) => 6,
+    };
+    ExitCode::from(status)
+}
+
+/// The words behind the program's name; none where one of them isn't text.
+fn words<R: std::rt::Env + AllocGlobal>(rt: &R) -> Result<Vec<String>, AllocError> {
+    match env::args(rt) {
+        Ok(args) => args.skip(1).collect(rt.alloc()),
+        Err(error) if error.kind() == ErrorKind::OutOfMemory => Err(AllocError),
+        Err(_) => Ok(Vec::new(rt.alloc())),
+    }
+}

@@ -1,0 +1,98 @@
+ghost use Rattle.std.specs.Prelude.{◌≡◌, ◌≤◌, ◌<◌, ◌+◌, false, true, [], length, take, IfOk, OnOk, OnErr};
+ghost use Rattle.rd_base.specs.History.{is_well_formed};
+ghost use Rattle.rd_base.specs.Limits.{AreLimits};
+ghost use Rattle.rd_base.specs.Outside.{HoldsPrefix, Rose, held_with};
+ghost use Rattle.rd_base.specs.declared.values.Side.TheVariants.{Incoming};
+ghost use Rattle.rd_in_core.specs.Seen.{IsAt, session_rules};
+ghost use Rattle.rd_rules.specs.Sent.{transcript, final};
+ghost use Rattle.rddr.specs.Transcripts.{transcript_text, all_steps_text, step_text};
+
+use crate::writing::{ScriptFail, write_sends};
+use rd_base::{Ending, Limits, Rows, Side, Sink};
+use rd_dialect::Dialect;
+use rd_in_core::InSession;
+use rd_script::{Script, last_line};
+use std::alloc::Global;
+
+/// Runs a script through a session, and writes the transcript. None means that the session is live at the script's end.
+pub fn run_script<D: Dialect, K: Sink>(
+    alloc: Global,
+    side: Side,
+    dialect: D,
+    limits: Limits,
+    script: &Script,
+    out: &mut K,
+) -> Result<Option<Ending>, ScriptFail>
+    requires limits { AreLimits limits }
+    requires side { side ≡ script.now.side }
+    requires incoming { side ≡ Incoming }
+    requires well_formed { is_well_formed limits.copies script.now.entries ≡ true }
+    requires is_open { K.is_closed out.old ≡ false }
+    ensures ok { OnOk result (K.held out.new ≡ held_with (K.held out.old) (transcript_text (transcript (record { side = side; grammar = D.grammar dialect; limits = limits }) script.now.entries))) }
+    ensures ending { IfOk result (λ ending. ending ≡ final (record { side = side; grammar = D.grammar dialect; limits = limits }) script.now.entries) }
+    ensures err { OnErr result (HoldsPrefix (K.held out.old) (K.held out.new) (transcript_text (transcript (record { side = side; grammar = D.grammar dialect; limits = limits }) script.now.entries))) }
+    ensures failed { result ≡ Err ScriptFail.WriteFail → Rose (K.faults out.old) (K.faults out.new) }
+    ensures faults { K.faults out.old ≤ K.faults out.new }
+    ensures stays_open { K.is_closed out.new ≡ false }
+    ensures mark { K.mark out.new ≡ K.mark out.old }
+{
+    let mut session = InSession::new(alloc, dialect, limits)?;
+    run_steps(alloc, &mut session, script, out)?;
+    let ending = session.ending();
+    out.push(last_line(alloc, ending)?.as_bytes())?;
+    Ok(ending)
+}
+
+/// Takes the happenings of a script, and writes what each step sends.
+fn run_steps<D: Dialect, K: Sink>(
+    alloc: Global,
+    session: &mut InSession<D>,
+    script: &Script,
+    out: &mut K,
+) -> Result<(), ScriptFail>
+    requires begins { IsAt (session_rules (D.grammar session.old.dialect) session.old) session.old [] }
+    requires well_formed { is_well_formed session.old.limits.copies script.now.entries ≡ true }
+    requires is_open { K.is_closed out.old ≡ false }
+    ensures dialect { session.new.dialect ≡ session.old.dialect }
+    ensures limits { session.new.limits ≡ session.old.limits }
+    ensures at { OnOk result (IsAt (session_rules (D.grammar session.old.dialect) session.old) session.new script.now.entries) }
+    ensures ok { OnOk result (K.held out.new ≡ held_with (K.held out.old) (all_steps_text (session_rules (D.grammar session.old.dialect) session.old) script.now.entries)) }
+    ensures err { OnErr result (HoldsPrefix (K.held out.old) (K.held out.new) (all_steps_text (session_rules (D.grammar session.old.dialect) session.old) script.now.entries)) }
+    ensures failed { result ≡ Err ScriptFail.WriteFail → Rose (K.faults out.old) (K.faults out.new) }
+    ensures faults { K.faults out.old ≤ K.faults out.new }
+    ensures stays_open { K.is_closed out.new ≡ false }
+    ensures mark { K.mark out.new ≡ K.mark out.old }
+{
+    for place in 0..script.len() {
+        run_step(alloc, session, script, place, out)?;
+    }
+    Ok(())
+}
+
+/// Takes the happening that stands there, from 0, and writes what the step sends.
+fn run_step<D: Dialect, K: Sink>(
+    alloc: Global,
+    session: &mut InSession<D>,
+    script: &Script,
+    place: usize,
+    out: &mut K,
+) -> Result<(), ScriptFail>
+    requires here { place < length script.now.entries }
+    requires few { place < 1048576 }
+    requires well_formed { is_well_formed session.old.limits.copies script.now.entries ≡ true }
+    requires at { IsAt (session_rules (D.grammar session.old.dialect) session.old) session.old (take place script.now.entries) }
+    requires is_open { K.is_closed out.old ≡ false }
+    ensures dialect { session.new.dialect ≡ session.old.dialect }
+    ensures limits { session.new.limits ≡ session.old.limits }
+    ensures at { OnOk result (IsAt (session_rules (D.grammar session.old.dialect) session.old) session.new (take (place + 1) script.now.entries)) }
+    ensures ok { OnOk result (K.held out.new ≡ held_with (K.held out.old) (step_text (session_rules (D.grammar session.old.dialect) session.old) script.now.entries place)) }
+    ensures err { OnErr result (HoldsPrefix (K.held out.old) (K.held out.new) (step_text (session_rules (D.grammar session.old.dialect) session.old) script.now.entries place)) }
+    ensures failed { result ≡ Err ScriptFail.WriteFail → Rose (K.faults out.old) (K.faults out.new) }
+    ensures faults { K.faults out.old ≤ K.faults out.new }
+    ensures stays_open { K.is_closed out.new ≡ false }
+    ensures mark { K.mark out.new ≡ K.mark out.old }
+{
+    let told = Rows::new(alloc);
+    let sends = session.take(script.happening(place), &told)?;
+    write_sends(alloc, place as u32 + 1, &sends, out)
+}
