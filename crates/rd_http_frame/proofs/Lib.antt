@@ -1,0 +1,4 @@
+pub mod HeadLines
+pub mod Replies
+pub mod Named
+pub mod Unique
