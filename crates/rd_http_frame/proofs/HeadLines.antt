@@ -1,22 +1,22 @@
 -- The line feeds of a request head.
-use Rattle.std.proofs.Common.{◌≡◌, ℕ, zero, suc, ◌+◌, ◌<◌, ◌≤◌, Bool, true, false, not, cond, List, [], ◌∷◌, ◌++◌, length, get_or, take, drop, refl, sym, ap, ◌∙◌, subst, arith, append_assoc, append-nil, length-append, codes, IsTrue, ◌==◌, ◌||◌, ◌&&◌, nat_lt, if◌then◌else◌, ◌⊎◌, inl, inr, map, slice_index, length-take}
+use Rattle.std.proofs.Common.{◌≡◌, ℕ, suc, ◌+◌, ◌<◌, ◌≤◌, Bool, true, false, not, List, [], ◌∷◌, ◌++◌, length, take, drop, refl, sym, ap, ◌∙◌, arith, append_assoc, append-nil, codes, IsTrue, ◌==◌, ◌&&◌, nat_lt, inl, inr, slice_index, length-take}
 use Rattle.std.specs.Prelude.{All}
 use Rattle.std.proofs.lemmas.Bool.Decides.{nat_tests}
-use Rattle.std.proofs.lemmas.Bool.{and_parts, false≢true}
+use Rattle.std.proofs.lemmas.Bool.{false≢true}
 use Rattle.std.proofs.lemmas.List.Elements.{All-head, All-tail, All-nil, All-cons, All-weaker, All-append}
 use Rattle.std.specs.List.{flat_map, prefix_len, list_all}
 use Rattle.std.proofs.lemmas.List.Sums.{AllPass-from_list_all, list_all-from_AllPass}
 use Rattle.std.proofs.lemmas.List.Folds.{list_all-append}
-use Rattle.std.proofs.lemmas.Grind.{flat_map-append, common_steps}
-use Rattle.std.proofs.lemmas.List.{append_cancel_right, append_cancel_left, drop_more, length-map}
-use Rattle.httparse.specs.Grammar.{is_token_byte, is_uri_byte, is_value_byte, AllPass, IsToken, LineEnd, crlf, lf, print_end, print_blank, print_version, Field, IsField, print_field, print_section, RequestHead, IsRequestHead, print_request, ReadsRequest, EndsInTarget}
+use Rattle.std.proofs.lemmas.Grind.{common_steps}
+use Rattle.std.proofs.lemmas.List.{append_cancel_right, length-map}
+use Rattle.httparse.specs.Grammar.{is_token_byte, is_uri_byte, is_value_byte, AllPass, IsToken, LineEnd, crlf, lf, print_end, print_blank, print_version, Field, IsField, print_field, RequestHead, IsRequestHead, print_request, ReadsRequest, EndsInTarget}
 use Rattle.httparse.proofs.PieceLemmas.{token_is_no_newline, print_field-append, space_ends_token}
 use Rattle.httparse.proofs.GrammarLemmas.{print_request-append, cons-append}
 use Rattle.httparse.specs.Spans.{RequestExceeds, IsRequestAt, header_bytes, name_and_value}
 use Rattle.httparse.specs.declared.spans.RequestSpans.{RequestSpans}
 use Rattle.httparse.specs.declared.spans.HeaderSpan.{HeaderSpan}
 use Rattle.httparse.specs.Grammar.{MayBecomeRequest}
-use Rattle.rd_http_frame.specs.Fronts.{Place, within, fresh, after_cr, line_feeds, is_break, front_len, after_front, is_in_target, goes_on, InTarget, NotInTarget, MayBegin, target_so_far}
+use Rattle.rd_http_frame.specs.Fronts.{within, fresh, line_feeds, is_break, front_len, after_front, is_in_target, goes_on, InTarget, NotInTarget, MayBegin}
 
 -- a byte that ends no line
 abbrev pub is_plain : ℕ → Bool
@@ -125,13 +125,13 @@ after_blank_token es (b ∷ w) rest h =
 
 -- ---- the target
 
-prefix_len-token : (w rest : List ℕ) → AllPass is_token_byte w → prefix_len is_token_byte (w ++ 32 ∷ rest) ≡ length w
+pub prefix_len-token : (w rest : List ℕ) → AllPass is_token_byte w → prefix_len is_token_byte (w ++ 32 ∷ rest) ≡ length w
 prefix_len-token [] rest h = rw space_ends_token refl
 prefix_len-token (b ∷ w) rest h =
     let here : is_token_byte b ≡ true = All-head (λ v. is_token_byte v ≡ true) b w h in
     rw here (ap (λ (n : ℕ). 1 + n) (prefix_len-token w rest (All-tail (λ v. is_token_byte v ≡ true) b w h)) ∙ omega arith)
 
-drop-word : (w rest : List ℕ) (b : ℕ) → drop (length w + 1) (w ++ b ∷ rest) ≡ rest
+pub drop-word : (w rest : List ℕ) (b : ℕ) → drop (length w + 1) (w ++ b ∷ rest) ≡ rest
 drop-word [] rest b = refl
 drop-word (x ∷ w) rest b = drop-suc w ∙ drop-word w rest b
   where

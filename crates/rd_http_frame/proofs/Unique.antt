@@ -1,12 +1,12 @@
 -- A scan has one answer.
-use Rattle.std.proofs.Common.{◌≡◌, ℕ, ◌≤◌, ◌<◌, Bool, true, false, List, [], ◌++◌, inl, inr, ◌⊎◌, sym, ap, ◌∙◌, refl, arith, append-nil, subst}
+use Rattle.std.proofs.Common.{◌≡◌, ℕ, ◌≤◌, ◌<◌, List, [], inl, inr, sym, ap, ◌∙◌, arith, append-nil, subst}
 use Rattle.std.proofs.lemmas.Bool.{false≢true}
 use Rattle.httparse.specs.Grammar.{RequestHead, ReadsRequest, NeverHasRequest, ResponseHead, ReadsResponse, NeverHasResponse}
 use Rattle.httparse.proofs.GrammarLemmas.{request_unique, response_unique}
 use Rattle.rd_base.specs.declared.values.Scan.{Scan}
 use Rattle.rd_base.specs.declared.values.Part.{Part}
 use Rattle.rd_base.specs.declared.values.Part.TheVariants.{Request, Reply}
-use Rattle.rd_http_frame.specs.Fronts.{head_feeds, InTarget, NotInTarget, is_good_target, IsOpen, MayBegin}
+use Rattle.rd_http_frame.specs.Fronts.{head_feeds, IsOpen}
 use Rattle.rd_http_frame.specs.Heads.{IsRequestScan, IsReplyScan, IsHeadScan, IsHopeless, request_answer, reply_answer, seen}
 use Rattle.rd_http_frame.specs.Heads.{IsRequestScan as request}
 use Rattle.rd_http_frame.specs.Heads.{IsReplyScan as reply}

@@ -1,7 +1,7 @@
 -- The lines and the target of bytes that may become a head.
-use Rattle.std.specs.Prelude.{◌≡◌, ℕ, zero, suc, ◌+◌, ◌<◌, ◌≤◌, ◌⊎◌, Bool, true, false, ◌&&◌, ◌||◌, not, List, [], ◌∷◌, ◌++◌, length, drop, slice_index, if◌then◌else◌, ◌==◌, nat_lt, IsTrue}
+use Rattle.std.specs.Prelude.{◌≡◌, ℕ, suc, ◌+◌, ◌≤◌, ◌⊎◌, Bool, true, false, ◌&&◌, ◌||◌, not, List, [], ◌∷◌, ◌++◌, drop, slice_index, if◌then◌else◌, ◌==◌, nat_lt, IsTrue}
 use Rattle.std.specs.List.{prefix_len, list_all}
-use Rattle.httparse.specs.Grammar.{is_token_byte, RequestHead, print_request, ReadsRequest, HasNoRequest, NeverHasRequest}
+use Rattle.httparse.specs.Grammar.{is_token_byte, RequestHead, ReadsRequest, HasNoRequest}
 
 -- CR or LF
 abbrev pub is_break : ℕ → Bool

@@ -1,7 +1,7 @@
 -- What the bytes at the front of a request or of a reply come to, as its head. RFC 9112, sections 2 to 5,
 -- as httparse's default grammar has it, with these bounds: 100 fields, and 65,536 bytes with the line
 -- ends before the start line.
-use Rattle.std.specs.Prelude.{◌≡◌, ℕ, ◌<◌, ◌≤◌, ◌⊎◌, ◌&&◌, ◌==◌, nat_le, if◌then◌else◌, IsTrue, false, List, length, take, map, codes, bytes_eq, is_some}
+use Rattle.std.specs.Prelude.{◌≡◌, ℕ, ◌<◌, ◌≤◌, ◌⊎◌, ◌&&◌, ◌==◌, nat_le, if◌then◌else◌, false, List, length, take, map, codes, bytes_eq, is_some}
 use Rattle.std.specs.List.{list_all}
 use Rattle.httparse.specs.Grammar.{RequestHead, print_request, ReadsRequest, NeverHasRequest, ResponseHead, print_response, ReadsResponse, HasNoResponse, NeverHasResponse, MayBecomeResponse, status_code}
 use Rattle.httparse.specs.Spans.{name_and_value}

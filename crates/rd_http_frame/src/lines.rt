@@ -10,7 +10,7 @@ pub(crate) fn after_front(bytes: &[u8]) -> &[u8]
 }
 
 /// The number of bytes CR and LF at the front.
-fn front_len(bytes: &[u8]) -> usize
+pub(crate) fn front_len(bytes: &[u8]) -> usize
     ensures value { result ≡ front_len bytes.now }
     ensures within { result ≤ length bytes.now }
 {

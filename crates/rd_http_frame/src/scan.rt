@@ -2,6 +2,7 @@ ghost use Rattle.std.specs.Prelude.{◌≡◌, ◌≤◌, length};
 ghost use Rattle.rd_base.specs.declared.values.Scan.{Scan};
 ghost use Rattle.httparse.specs.Grammar.{RequestHead, ResponseHead};
 ghost use Rattle.httparse.specs.Spans.{IsRequestAt, IsRequestWithin, IsResponseAt, IsResponseWithin};
+ghost use Rattle.rd_http_frame.specs.HeadLaws.{IsHeadFraming};
 ghost use Rattle.rd_http_frame.specs.Heads.{IsHeadScan, IsRequestScan, IsReplyScan, request_answer, reply_answer, unfinished};
 
 use crate::fields::framing_of;
@@ -18,7 +19,7 @@ const MOST_BYTES: usize = 65_536;
 /// The most lines of a head: a start line and 100 fields.
 const MOST_LINES: usize = 101;
 /// The most fields of a head.
-const MOST_FIELDS: usize = 100;
+pub(crate) const MOST_FIELDS: usize = 100;
 
 /// What the bytes come to as the head of a request or of a reply. Of the first 65,536 no more are looked at.
 ///
@@ -29,6 +30,9 @@ pub fn scan_head(part: Part, bytes: &[u8]) -> Scan
 
     // The definition is met by this answer alone.
     ensures only { (other : Scan) → IsHeadScan part bytes.now other → other ≡ result }
+
+    // No head begins another, and hopeless bytes begin none, whatever follows.
+    ensures framing { IsHeadFraming part }
 {
     match part {
         Part::Request => scan_request_head(seen(bytes)),
@@ -37,7 +41,7 @@ pub fn scan_head(part: Part, bytes: &[u8]) -> Scan
 }
 
 /// The bytes that are looked at.
-fn seen(bytes: &[u8]) -> &[u8]
+pub(crate) fn seen(bytes: &[u8]) -> &[u8]
     ensures is { result.now ≡ seen bytes.now }
     ensures within { length result.now ≤ 65536 }
 {

@@ -150,22 +150,120 @@ fn most_fields(rt: HostRuntime) -> Result<(), AllocError> {
     Ok(())
 }
 
+/// So many bytes from the front, or all.
+fn front(bytes: &[u8], count: usize) -> &[u8] {
+    bytes.get(..count).unwrap_or(bytes)
+}
+
 #[test]
 fn most_bytes(rt: HostRuntime) -> Result<(), AllocError> {
     let mut head = Vec::new(rt.alloc());
     head.extend_from_slice(b"GET / HTTP/1.1\r\nA: ")?;
-    while head.len() < 65_532 {
+    for _ in 0..65_513u32 {
         head.push(b'a')?;
     }
     let mut longer = head.clone()?;
     head.extend_from_slice(b"\r\n\r\n")?;
     longer.extend_from_slice(b"a\r\n\r\n")?;
-    for n in 65_336..65_536 {
-        assert_eq!(rt; scan_head(Part::Request, &head[..n]), Scan::More);
-        assert_eq!(rt; scan_head(Part::Request, &longer[..n]), Scan::More);
+    for n in 65_336..65_536usize {
+        assert_eq!(rt; scan_head(Part::Request, front(&head, n)), Scan::More);
+        assert_eq!(rt; scan_head(Part::Request, front(&longer, n)), Scan::More);
     }
     assert_eq!(rt; scan_head(Part::Request, &head), Scan::Whole(65_536));
-    assert_eq!(rt; scan_head(Part::Request, &longer[..65_536]), Scan::TooBig);
+    assert_eq!(rt;
+        scan_head(Part::Request, front(&longer, 65_536)),
+        Scan::TooBig
+    );
     assert_eq!(rt; scan_head(Part::Request, &longer), Scan::TooBig);
     Ok(())
+}
+
+/// The bytes that a span covers.
+fn at(bytes: &[u8], span: Span) -> &[u8] {
+    bytes
+        .get(span.start as usize..span.end as usize)
+        .unwrap_or(b"?")
+}
+
+#[test]
+fn places(rt: HostRuntime) {
+    let bytes = b"\r\nPOST /a?b HTTP/1.1\r\nHost:h\nEmpty: \t\r\nContent-Length: \t12 \r\n\r\nbody";
+    let Some(head) = Head::read(Part::Request, bytes) else {
+        panic!(rt; "no head");
+    };
+    assert_eq!(rt; at(bytes, head.method()), b"POST".as_slice());
+    assert_eq!(rt; at(bytes, head.target()), b"/a?b".as_slice());
+    assert_eq!(rt; head.status(), 0);
+    assert_eq!(rt; head.field_count(), 3);
+    let fields: [(&[u8], &[u8]); 3] = [
+        (b"Host", b"h"),
+        (b"Empty", b""),
+        (b"Content-Length", b"12"),
+    ];
+    for i in 0..fields.len() {
+        if i < head.field_count() {
+            let (name, value) = fields[i];
+            let field = head.field_at(i);
+            assert_eq!(rt; at(bytes, field.name), name);
+            assert_eq!(rt; at(bytes, field.value), value);
+        }
+    }
+    assert_eq!(rt; body_rule(&head, bytes), BodyRule::Length(12));
+    assert!(rt; Head::read(Part::Request, b"POST / HTTP/1.1\r\nHost: h\r\n").is_none());
+    assert!(rt; Head::read(Part::Request, b"CONNECT h:1 HTTP/1.1\r\n\r\n").is_none());
+}
+
+#[test]
+fn body_rules(rt: HostRuntime) {
+    let rows: [(Part, &[u8], BodyRule); 11] = [
+        (Part::Request, b"GET / HTTP/1.1\r\n\r\n", BodyRule::Empty),
+        (
+            Part::Request,
+            b"PUT / HTTP/1.1\r\nTransfer-Encoding: chunked\r\n\r\n",
+            BodyRule::Chunked,
+        ),
+        (Part::Reply, b"HTTP/1.1 200 OK\r\n\r\n", BodyRule::UntilEnd),
+        (
+            Part::Reply,
+            b"HTTP/1.1 200 OK\r\nContent-Length: 0\r\n\r\n",
+            BodyRule::Length(0),
+        ),
+        (
+            Part::Reply,
+            b"HTTP/1.1 200\r\nTransfer-Encoding: chunked\r\n\r\n",
+            BodyRule::Chunked,
+        ),
+        (
+            Part::Reply,
+            b"HTTP/1.1 100 Continue\r\n\r\n",
+            BodyRule::Empty,
+        ),
+        (
+            Part::Reply,
+            b"HTTP/1.1 199 X\r\nContent-Length: 5\r\n\r\n",
+            BodyRule::Empty,
+        ),
+        (
+            Part::Reply,
+            b"HTTP/1.1 204 X\r\nContent-Length: 5\r\n\r\n",
+            BodyRule::Empty,
+        ),
+        (
+            Part::Reply,
+            b"HTTP/1.1 205 X\r\nContent-Length: 5\r\n\r\n",
+            BodyRule::Length(5),
+        ),
+        (
+            Part::Reply,
+            b"HTTP/1.1 304 X\r\nTransfer-Encoding: chunked\r\n\r\n",
+            BodyRule::Empty,
+        ),
+        (Part::Reply, b"HTTP/1.1 099 X\r\n\r\n", BodyRule::UntilEnd),
+    ];
+    for (part, bytes, rule) in rows {
+        let Some(head) = Head::read(part, bytes) else {
+            panic!(rt; "no head");
+        };
+        assert_eq!(rt; body_rule(&head, bytes), rule);
+    }
 }

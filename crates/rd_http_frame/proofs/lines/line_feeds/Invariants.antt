@@ -1,4 +1,4 @@
-use Rattle.std.proofs.Common.{◌≡◌, false, ◌+◌, ◌≤◌, drop, length}
+use Rattle.std.proofs.Common.{◌≡◌, false, ◌+◌, ◌≤◌, drop}
 use Rattle.rd_http_frame.specs.Fronts.{line_feeds, place_of}
 use Rattle.rd_http_frame.proofs.lines.line_feeds.Given as goal
 

@@ -1,4 +1,4 @@
-use Rattle.std.proofs.Common.{◌≡◌, ◌≤◌, ℕ, List, refl, ap, Err, sym, ◌∙◌, arith}
+use Rattle.std.proofs.Common.{◌≡◌, ◌≤◌, ℕ, List, refl, ap, Err, ◌∙◌, arith}
 use Rattle.rd_http_frame.specs.Fronts.{after_front, line_feeds, within, head_feeds}
 use Rattle.rd_http_frame.specs.Heads.IsReplyScan.{ManyLines, Complete}
 use Rattle.rd_http_frame.proofs.Replies.{reply_exceeds_feeds, reply_fields_fit}

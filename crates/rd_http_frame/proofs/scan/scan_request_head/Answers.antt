@@ -1,8 +1,8 @@
-use Rattle.std.proofs.Common.{◌≡◌, ◌≤◌, ◌<◌, true, false, ℕ, ◌∙◌, sym, ap, inl, inr, arith, List, refl, Err, rules}
+use Rattle.std.proofs.Common.{◌≡◌, ◌≤◌, ℕ, ◌∙◌, sym, ap, inl, inr, arith, List, refl, Err}
 use Rattle.std.proofs.lemmas.Bool.{false≢true}
 use Rattle.std.specs.List.{list_all}
 use Rattle.rd_http_frame.specs.Fronts.{is_in_target, after_front, line_feeds, within, is_target_byte, target_so_far, head_feeds, InTarget, NotInTarget}
-use Rattle.rd_http_frame.specs.Heads.IsRequestScan.{ManyLines, Complete, Hopeless, Open}
+use Rattle.rd_http_frame.specs.Heads.IsRequestScan.{ManyLines, Complete, Open}
 use Rattle.rd_http_frame.proofs.HeadLines.{head_is_past_target, exceeds_feeds, open_by_partial, fields_fit}
 use Rattle.rd_http_frame.proofs.scan.scan_request_head.Goals as goal
 

@@ -1,4 +1,4 @@
-use Rattle.std.proofs.Common.{◌≡◌, ◌≤◌, sym, arith, length-take}
+use Rattle.std.proofs.Common.{sym, arith, length-take}
 use Rattle.std.proofs.lemmas.List.{take_all}
 use Rattle.rd_http_frame.proofs.scan.seen.Goals as goal
 
