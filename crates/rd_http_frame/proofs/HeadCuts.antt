@@ -1,10 +1,10 @@
 -- Heads are cut in one way.
-use Rattle.std.proofs.Common.{◌≡◌, ℕ, zero, suc, ◌+◌, ◌<◌, ◌≤◌, Bool, true, false, List, [], ◌∷◌, ◌++◌, length, take, drop, map, ap, sym, ◌∙◌, refl, subst, arith, append_assoc, append-nil, length-append, length-take, if◌then◌else◌, ◌&&◌, ◌==◌, nat_le, codes, IsTrue}
+use Rattle.std.proofs.Common.{◌≡◌, ℕ, zero, suc, ◌+◌, ◌<◌, ◌≤◌, Bool, true, false, List, [], ◌∷◌, ◌++◌, length, take, drop, map, ap, sym, ◌∙◌, refl, subst, arith, append_assoc, append-nil, length-append, length-take, if◌then◌else◌, ◌&&◌, ◌==◌, nat_le, codes}
 use Rattle.std.specs.Prelude.{bytes_eq, is_some}
 use Rattle.std.specs.List.{list_all}
 use Rattle.std.proofs.lemmas.List.{take_all, take-append-drop}
 use Rattle.std.proofs.Math.Seq.{take-append_seam}
-use Rattle.httparse.specs.Grammar.{LineEnd, crlf, lf, print_end, RequestHead, IsRequestHead, print_request, ReadsRequest, ResponseHead, IsResponseHead, print_response, ReadsResponse, status_code}
+use Rattle.httparse.specs.Grammar.{LineEnd, crlf, lf, print_end, RequestHead, print_request, ReadsRequest, ResponseHead, print_response, ReadsResponse, status_code}
 use Rattle.httparse.specs.Spans.{name_and_value}
 use Rattle.rd_base.specs.declared.values.Scan.{Scan}
 use Rattle.rd_base.specs.declared.values.Scan.TheVariants.{Whole, More, Bad, TooBig, Unsupported}

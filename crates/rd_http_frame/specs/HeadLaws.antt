@@ -1,5 +1,5 @@
 -- Heads are cut in one way, however their bytes come.
-use Rattle.std.specs.Prelude.{◌≡◌, ℕ, ◌<◌, ◌≤◌, List, ◌++◌, length, take}
+use Rattle.std.specs.Prelude.{ℕ, ◌<◌, ◌≤◌, List, ◌++◌, length, take}
 use Rattle.rd_base.specs.declared.values.Scan.TheVariants.{Whole, Bad}
 use Rattle.rd_base.specs.declared.values.Part.{Part}
 use Rattle.rd_http_frame.specs.Heads.{IsHeadScan}

@@ -1,7 +1,10 @@
 ghost use Rattle.std.specs.Prelude.{◌≡◌, ◌≤◌, All, length, map, IsTrue};
 ghost use Rattle.std.specs.Str.Parse.{digits_value};
-ghost use Rattle.httparse.specs.Spans.{IsHeaderWithin, header_bytes};
-ghost use Rattle.rd_http_frame.specs.Fields.{values_of, is_length, is_coding, framing_of, IsFound};
+ghost use Rattle.httparse.specs.Spans.{IsHeaderWithin, header_bytes, span_bytes};
+ghost use Rattle.rd_http_frame.specs.Fields.{values_of, is_length, is_coding, framing_of, IsFound, IsFirst, length_of};
+ghost use Rattle.std.specs.Str.{str_eq_ignore_ascii_case};
+ghost use Rattle.std.specs.List.{list_all};
+ghost use Rattle.std.specs.Char.{is_ascii_digit};
 
 use httparse::spans::{HeaderSpan, Span};
 
@@ -70,8 +73,6 @@ fn first_named(name: &[u8], bytes: &[u8], headers: &[HeaderSpan]) -> Option<usiz
     None
 }
 
-ghost use Rattle.rd_http_frame.specs.Fields.{IsFirst};
-
 /// Whether the field has this name, in any case of letters.
 fn is_named(name: &[u8], bytes: &[u8], header: &HeaderSpan) -> bool
     requires { IsHeaderWithin (length bytes.now) header.now }
@@ -79,9 +80,6 @@ fn is_named(name: &[u8], bytes: &[u8], header: &HeaderSpan) -> bool
 {
     header.name.of(bytes).eq_ignore_ascii_case(name)
 }
-
-ghost use Rattle.std.specs.Str.{str_eq_ignore_ascii_case};
-ghost use Rattle.httparse.specs.Spans.{span_bytes};
 
 /// Whether this is the coding `chunked`, which only HTTP/1.1 has.
 fn is_coding(minor: u8, value: &[u8]) -> bool
@@ -104,8 +102,6 @@ fn length_of(value: &[u8]) -> Option<u64>
     Some(size)
 }
 
-ghost use Rattle.rd_http_frame.specs.Fields.{length_of};
-
 /// Whether these are 1 to 15 digits.
 fn is_length(value: &[u8]) -> bool
     ensures { result ≡ is_length value.now }
@@ -118,6 +114,3 @@ fn are_digits(value: &[u8]) -> bool
 {
     value.iter().all(|b| b.is_ascii_digit())
 }
-
-ghost use Rattle.std.specs.List.{list_all};
-ghost use Rattle.std.specs.Char.{is_ascii_digit};

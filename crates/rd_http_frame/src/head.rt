@@ -1,12 +1,13 @@
-ghost use Rattle.std.specs.Prelude.{◌≡◌, ◌≤◌, ◌<◌, ℕ, length, slice_index_or, IfSome, None};
+ghost use Rattle.std.specs.Prelude.{◌≡◌, ◌≤◌, ◌<◌, ℕ, length, slice_index_or, IfSome, None, if◌then◌else◌};
 ghost use Rattle.rd_base.specs.declared.values.Scan.TheVariants.{Whole};
 ghost use Rattle.httparse.specs.Grammar.{RequestHead, ResponseHead};
 ghost use Rattle.httparse.specs.Spans.{IsRequestAt, IsRequestOf, IsRequestWithin, IsResponseAt, IsResponseOf, IsResponseWithin};
 ghost use Rattle.rd_http_frame.specs.Heads.{IsHeadScan};
-ghost use Rattle.rd_http_frame.specs.Places.{HeadPlaces, IsHead, request_places, reply_places};
+ghost use Rattle.rd_http_frame.specs.Places.{HeadPlaces, IsHead, request_places, reply_places, IsRequestRead, IsReplyRead, has_no_body, rule_of};
+ghost use Rattle.rd_http_frame.specs.declared.body.BodyRule.TheVariants.{Empty, UntilEnd};
 
 use crate::body::{BodyRule, has_no_body, rule_of};
-use crate::fields::framing_of;
+use crate::fields::{Framing, framing_of};
 use crate::lines::front_len;
 use crate::place::{FieldSpan, Span, field_spans, first_at};
 use crate::scan::{MOST_FIELDS, scan_head, seen};
@@ -105,8 +106,6 @@ fn read_request(bytes: &[u8]) -> Option<Head>
     }
 }
 
-ghost use Rattle.rd_http_frame.specs.Places.{IsRequestRead, IsReplyRead};
-
 /// The head of a reply, where there is one.
 fn read_reply(bytes: &[u8]) -> Option<Head>
     requires { length bytes.now ≤ 65536 }
@@ -175,9 +174,3 @@ fn reply_rule(status: u16, framing: Option<Framing>) -> BodyRule
         rule_of(BodyRule::UntilEnd, framing)
     }
 }
-
-ghost use Rattle.std.specs.Prelude.{if◌then◌else◌};
-ghost use Rattle.rd_http_frame.specs.Places.{has_no_body, rule_of};
-ghost use Rattle.rd_http_frame.specs.declared.body.BodyRule.TheVariants.{Empty, UntilEnd};
-
-use crate::fields::Framing;

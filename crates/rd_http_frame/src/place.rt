@@ -3,7 +3,7 @@ ghost use Rattle.std.specs.List.{prefix_len};
 ghost use Rattle.httparse.specs.Grammar.{Field, is_ows};
 ghost use Rattle.httparse.specs.Pieces.{FieldLine};
 ghost use Rattle.httparse.specs.Spans.{IsHeaderWithin};
-ghost use Rattle.rd_http_frame.specs.Places.{AtField, AreLinesAt, first_at, fields_at};
+ghost use Rattle.rd_http_frame.specs.Places.{AtField, AreLinesAt, first_at, fields_at, span_of};
 
 use arrayvec::ArrayVec;
 use httparse::spans::HeaderSpan;
@@ -72,8 +72,6 @@ fn field_span(bytes: &[u8], at: usize, name_end: usize, header: &HeaderSpan) -> 
         },
     }
 }
-
-ghost use Rattle.rd_http_frame.specs.Places.{span_of};
 
 /// The first place past spaces and tabs.
 fn after_space(bytes: &[u8], at: usize) -> usize

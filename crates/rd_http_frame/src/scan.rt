@@ -3,7 +3,7 @@ ghost use Rattle.rd_base.specs.declared.values.Scan.{Scan};
 ghost use Rattle.httparse.specs.Grammar.{RequestHead, ResponseHead};
 ghost use Rattle.httparse.specs.Spans.{IsRequestAt, IsRequestWithin, IsResponseAt, IsResponseWithin};
 ghost use Rattle.rd_http_frame.specs.HeadLaws.{IsHeadFraming};
-ghost use Rattle.rd_http_frame.specs.Heads.{IsHeadScan, IsRequestScan, IsReplyScan, request_answer, reply_answer, unfinished};
+ghost use Rattle.rd_http_frame.specs.Heads.{IsHeadScan, IsRequestScan, IsReplyScan, request_answer, reply_answer, unfinished, seen};
 
 use crate::fields::framing_of;
 use crate::lines::{after_front, line_feeds};
@@ -51,8 +51,6 @@ pub(crate) fn seen(bytes: &[u8]) -> &[u8]
         &bytes[..MOST_BYTES]
     }
 }
-
-ghost use Rattle.rd_http_frame.specs.Heads.{seen};
 
 fn scan_request_head(bytes: &[u8]) -> Scan
     requires { length bytes.now ≤ 65536 }
