@@ -11,7 +11,7 @@ use Rattle.std.proofs.lemmas.Grind.{common_steps}
 use Rattle.std.proofs.lemmas.List.{append_cancel_right, length-map}
 use Rattle.httparse.specs.Grammar.{is_token_byte, is_uri_byte, is_value_byte, AllPass, IsToken, LineEnd, crlf, lf, print_end, print_blank, print_version, Field, IsField, print_field, RequestHead, IsRequestHead, print_request, ReadsRequest, EndsInTarget}
 use Rattle.httparse.proofs.PieceLemmas.{token_is_no_newline, print_field-append, space_ends_token}
-use Rattle.httparse.proofs.GrammarLemmas.{print_request-append, cons-append}
+use Rattle.httparse.proofs.GrammarLemmas.{print_request-append}
 use Rattle.httparse.specs.Spans.{RequestExceeds, IsRequestAt, header_bytes, name_and_value}
 use Rattle.httparse.specs.declared.spans.RequestSpans.{RequestSpans}
 use Rattle.httparse.specs.declared.spans.HeaderSpan.{HeaderSpan}
@@ -182,7 +182,7 @@ body h = print_blank h.blank ++ from_method h []
 
 regroup : (a b c d e f r : List ℕ) → (a ++ (b ++ 32 ∷ (c ++ 32 ∷ (d ++ (e ++ (f ++ [])))))) ++ r
     ≡ a ++ (b ++ 32 ∷ (c ++ 32 ∷ (d ++ (e ++ (f ++ r)))))
-regroup a b c d e f r = simp (append_assoc, cons-append, append-nil)
+regroup a b c d e f r = simp (append_assoc, append-nil)
 
 pub body-append : (h : RequestHead) (R : List ℕ) → body h ++ R ≡ print_blank h.blank ++ from_method h R
 body-append h R = regroup (print_blank h.blank) h.method h.target (print_version h.minor) (print_end h.line_end) (flat_map print_field h.fields) R
