@@ -1,0 +1,10 @@
+pub mod HeadLines
+pub mod Replies
+pub mod Named
+pub mod Unique
+pub mod FieldPlaces
+pub mod FieldWalk
+pub mod Starts
+pub mod HeadsRead
+pub mod TargetCuts
+pub mod HeadCuts

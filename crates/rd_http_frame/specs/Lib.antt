@@ -1,0 +1,5 @@
+pub mod Fronts
+pub mod Fields
+pub mod Heads
+pub mod Places
+pub mod HeadLaws

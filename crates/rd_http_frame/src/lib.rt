@@ -1,0 +1,18 @@
+// HTTP/1.x messages, on whatever prefix has come: where one ends, or why that can't be told.
+#![tactic(auto)]
+
+mod body;
+mod fields;
+mod head;
+mod lines;
+mod place;
+mod scan;
+mod target;
+
+pub use body::{BodyRule, body_rule};
+pub use head::Head;
+pub use place::{FieldSpan, Span};
+pub use scan::scan_head;
+
+#[cfg(test)]
+mod tests;
