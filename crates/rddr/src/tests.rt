@@ -86,7 +86,7 @@ const THREE_EQUAL: &str = "side incoming
 
 const REQUESTS: &str = "1 to 0 67657420610a\n1 to 1 67657420610a\n1 to 2 67657420610a\n";
 
-/// What follows the script of three equal replies, what follows the reply in its transcript, and the status.
+/// What follows row three equal replies in a script, what follows the client's reply in the transcript, and the status.
 #[test]
 fn three_equal_replies_go_out_once(rt: HostRuntime) -> Result<(), Fail> {
     let alloc = rt.alloc();
