@@ -26,79 +26,102 @@ fn limits() -> Limits
     }
 }
 
-fn heard(
-    session: &mut InSession<Line>,
-    alloc: Global,
-    at: u64,
-    what: What,
-) -> Result<Sends, NoMemory> {
-    session.take(&Happening { at, what }, &Rows::new(alloc))
-}
-
 fn piece(alloc: Global, link: u8, bytes: &[u8]) -> Result<What, NoMemory> {
     Ok(What::Piece(Link(link), Bytes::from_slice(alloc, bytes)?))
 }
 
+/// What a session has sent in its last step, when it has heard these, and where it then stands.
+#[derive(Drop)]
+struct Heard {
+    sends: Sends,
+    ending: Option<Ending>,
+    due: Option<(u64, Which)>,
+    exchanges: u32,
+}
+
+fn hear(alloc: Global, happenings: &[Happening]) -> Result<Heard, NoMemory> {
+    let mut session = InSession::new(alloc, Line, limits())?;
+    let mut sends = Sends::new(alloc);
+    for happening in happenings {
+        sends = session.take(happening, &Rows::new(alloc))?;
+    }
+    Ok(Heard {
+        sends,
+        ending: session.ending(),
+        due: session.due(),
+        exchanges: session.exchanges(),
+    })
+}
+
+fn happening(at: u64, what: What) -> Happening {
+    Happening { at, what }
+}
+
+/// How many of these are heard, how many sends the last of them brings, how many exchanges are then agreed, and what
+/// is waited for.
 #[test]
 fn an_exchange(rt: HostRuntime) -> Result<(), Fail> {
     let alloc = rt.alloc();
-    let mut session = InSession::new(alloc, Line, limits())?;
-    assert_eq!(rt; session.due(), Some((60_000, Which::Idle)));
-    let sends = heard(&mut session, alloc, 7, piece(alloc, 3, b"get a\n")?)?;
-    assert_eq!(rt; sends.len(), 3);
-    assert_eq!(rt; session.due(), Some((5_007, Which::Gather)));
-    for link in 0..2 {
-        let sends = heard(&mut session, alloc, 8, piece(alloc, link, b"ok 1\n")?)?;
-        assert_eq!(rt; sends.len(), 0);
+    let happenings = vec![in alloc;
+        happening(7, piece(alloc, 3, b"get a\n")?),
+        happening(8, piece(alloc, 0, b"ok 1\n")?),
+        happening(8, piece(alloc, 1, b"ok 1\n")?),
+        happening(9, piece(alloc, 2, b"ok 1\n")?),
+    ]?;
+    for (count, sends, exchanges, due) in [
+        (0, 0, 0, (60_000, Which::Idle)),
+        (1, 3, 0, (5_007, Which::Gather)),
+        (2, 0, 0, (5_007, Which::Gather)),
+        (3, 0, 0, (5_007, Which::Gather)),
+        (4, 1, 1, (60_009, Which::Idle)),
+    ] {
+        let heard = hear(alloc, happenings.get(..count).unwrap_or(&[]))?;
+        assert_eq!(rt; heard.sends.len(), sends);
+        assert_eq!(rt; heard.exchanges, exchanges);
+        assert_eq!(rt; heard.due, Some(due));
+        assert_eq!(rt; heard.ending, None);
     }
-    let sends = heard(&mut session, alloc, 9, piece(alloc, 2, b"ok 1\n")?)?;
-    assert_eq!(rt; sends.len(), 1);
-    assert_eq!(rt; sends.link_at(0), Link(3));
-    assert_eq!(rt; sends.bytes_at(0), b"ok 1\n".as_slice());
-    assert_eq!(rt; session.exchanges(), 1);
-    assert_eq!(rt; session.ending(), None);
-    assert_eq!(rt; session.due(), Some((60_009, Which::Idle)));
     Ok(())
 }
 
+/// A first happening, a look at the clock or a fault behind it, and how the session then ends.
 #[test]
 fn what_no_piece_says(rt: HostRuntime) -> Result<(), Fail> {
     let alloc = rt.alloc();
-    let mut late = InSession::new(alloc, Line, limits())?;
-    heard(&mut late, alloc, 100, piece(alloc, 3, b"get a\n")?)?;
-    heard(&mut late, alloc, 5_099, What::Timer)?;
-    assert_eq!(rt; late.ending(), None);
-    heard(&mut late, alloc, 5_100, What::Timer)?;
-    assert_eq!(rt;
-        late.ending(),
-        Some(Ending::Late {
-            which: Which::Gather
-        })
-    );
-    assert_eq!(rt; late.due(), None);
-    let mut begun = InSession::new(alloc, Line, limits())?;
-    heard(&mut begun, alloc, 0, piece(alloc, 3, b"a")?)?;
-    heard(&mut begun, alloc, 29_999, What::Timer)?;
-    assert_eq!(rt; begun.ending(), None);
-    heard(&mut begun, alloc, 30_000, What::Timer)?;
-    assert_eq!(rt;
-        begun.ending(),
-        Some(Ending::Late {
-            which: Which::Request
-        })
-    );
-    for (at, what, ending) in [
-        (60_000, What::Timer, Ending::Late { which: Which::Idle }),
-        (0, What::Stop, Ending::Stopped),
+    for (bytes, at, what, ending) in [
         (
-            0,
+            b"get a\n".as_slice(),
+            5_100,
+            What::Timer,
+            Some(Ending::Late {
+                which: Which::Gather,
+            }),
+        ),
+        (b"get a\n", 5_099, What::Timer, None),
+        (
+            b"a",
+            30_100,
+            What::Timer,
+            Some(Ending::Late {
+                which: Which::Request,
+            }),
+        ),
+        (b"a", 30_099, What::Timer, None),
+        (b"a", 100, What::Stop, Some(Ending::Stopped)),
+        (
+            b"a",
+            100,
             What::ReadFail(Link(1)),
-            Ending::LinkFault { link: Link(1) },
+            Some(Ending::LinkFault { link: Link(1) }),
         ),
     ] {
-        let mut session = InSession::new(alloc, Line, limits())?;
-        heard(&mut session, alloc, at, what)?;
-        assert_eq!(rt; session.ending(), Some(ending));
+        let happenings = vec![in alloc;
+            happening(100, piece(alloc, 3, bytes)?),
+            happening(at, what),
+        ]?;
+        let heard = hear(alloc, &happenings)?;
+        assert_eq!(rt; heard.ending, ending);
+        assert_eq!(rt; heard.due.is_none(), ending.is_some());
     }
     Ok(())
 }
