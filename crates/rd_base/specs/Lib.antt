@@ -5,6 +5,7 @@ pub mod Swap
 pub mod History
 pub mod Sent
 pub mod Verdicts
+pub mod Heard
 pub mod OwnRows
 pub mod RowPlaces
 pub mod Outside

@@ -1,5 +1,5 @@
 -- What a step sends.
-use Rattle.std.specs.Prelude.{ℕ, zero, suc, ◌==◌, if◌then◌else◌, List, [], ◌∷◌, ◌++◌}
+use Rattle.std.specs.Prelude.{ℕ, ◌==◌, if◌then◌else◌, List, [], ◌∷◌, ◌++◌}
 use Rattle.std.specs.List.{flat_map}
 use Rattle.rd_base.specs.Words.{below}
 use Rattle.rd_base.specs.declared.sends.Send.{Send}

@@ -8,11 +8,10 @@ use Rattle.rd_base.specs.Verdicts.{verdict, verdict_from, fault, fault_or, maske
 use Rattle.rd_base.specs.declared.values.MaskLimits.{MaskLimits}
 use Rattle.rd_base.specs.declared.verdict.Verdict.{Verdict}
 use Rattle.rd_base.specs.declared.verdict.Verdict.TheVariants.{Agreed, Disagree, Noise}
-use Rattle.rd_core.specs.Heard.{lists_of}
 use Rattle.rd_rules.specs.Exchange.{agree}
 use Rattle.rd_rules.specs.Given.{agreed_mask}
 use Rattle.rd_rules.specs.Trouble.{judge_by, blamed}
-use Rattle.rd_rules.specs.Early.{Heard, judged_of, judged_places, early_verdict}
+use Rattle.rd_base.specs.Heard.{Heard, lists_of, judged_of, judged_places, early_verdict}
 
 get_take : {A : Type 0} (n place : ℕ) (xs : List A) → place < n → slice_get (take n xs) place ≡ slice_get xs place
 get_take zero place xs lt = absurd (omega arith)

@@ -1,16 +1,12 @@
 -- Words for the tokens that are cut of what is due.
-use Rattle.std.specs.Prelude.{ℕ, Bool, List, ◌++◌, map, Option, Some, None}
+use Rattle.std.specs.Prelude.{ℕ, Bool, List, ◌++◌, Option, Some, None}
 use Rattle.rd_base.specs.Token.{Token}
 use Rattle.rd_dialect.specs.declared.due.Due.{Due}
 use Rattle.rd_dialect.specs.Grammar.{Grammar}
-use Rattle.rd_rules.specs.Early.{Heard}
 
 -- the tokens that the first cursor has before it
 abbrev pub left_due : Grammar → Due → List ℕ → Bool → List Token
 left_due g due flat whole = g.left due.part due.phase due.note flat whole g.first_cursor
-
-abbrev pub lists_of : List Heard → List (List Token)
-lists_of copies = map (λ c. c.tokens) copies
 
 -- a list in front of a list that is there
 abbrev pub behind_some : {A : Type 0} → List A → Option (List A) → Option (List A)

@@ -4,11 +4,12 @@ ghost use Rattle.rd_base.specs.Limits.{AreMaskLimits};
 ghost use Rattle.rd_verdict.specs.LiesIn.{LiesIn};
 ghost use Rattle.rd_dialect.specs.Due.{IsDue, tokens_due};
 ghost use Rattle.rd_rules.specs.Exchange as rule;
-ghost use Rattle.rd_rules.specs.Early.{Heard, heard, judged_of};
+ghost use Rattle.rd_base.specs.Heard.{Heard, judged_of, lists_of};
+ghost use Rattle.rd_rules.specs.Early.{heard};
 ghost use Rattle.rd_rules.specs.Given.{agreed_mask, learnt_rows};
 ghost use Rattle.rd_rules.specs.Trouble.{judge_by, blamed as rule_blamed};
 ghost use Rattle.rd_core.specs.Room.{room, flat_room};
-ghost use Rattle.rd_core.specs.Heard.{left_due, lists_of};
+ghost use Rattle.rd_core.specs.Heard.{left_due};
 
 use crate::opens::{Open, scan_open};
 use crate::unit::{LinkUnit, push_unit};

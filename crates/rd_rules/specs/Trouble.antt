@@ -20,7 +20,8 @@ use Rattle.rd_dialect.specs.declared.due.Due.{Due}
 use Rattle.rd_dialect.specs.Grammar.{Grammar}
 use Rattle.rd_dialect.specs.Due.{request_due, reply_due, scan_due}
 use Rattle.rd_rules.specs.Exchange.{Rules, Reading, Front, Open, reading, Exchange, Ask, note, scan_open, past}
-use Rattle.rd_rules.specs.Early.{Heard, heard, early_verdict}
+use Rattle.rd_base.specs.Heard.{Heard, early_verdict}
+use Rattle.rd_rules.specs.Early.{heard}
 use Rattle.rd_rules.specs.Given.{own_after}
 use Rattle.rd_rules.specs.Wait.{wait, due_moment, some_open}
 

@@ -1,6 +1,6 @@
 use Rattle.std.proofs.Common.{◌≡◌, ◌++◌, ◌-◌, ◌^◌, drop, map, length}
-use Rattle.rd_rules.specs.Early.{heard, judged_of}
-use Rattle.rd_core.specs.Heard.{lists_of}
+use Rattle.rd_base.specs.Heard.{judged_of, lists_of}
+use Rattle.rd_rules.specs.Early.{heard}
 use Rattle.rd_core.proofs.judging.hear.Given as goal
 
 abbrev pub invariant-loop-one : goal.invariant-loop-one

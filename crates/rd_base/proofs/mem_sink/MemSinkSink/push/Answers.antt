@@ -1,4 +1,4 @@
-use Rattle.std.proofs.Common.{◌≡◌, ap}
+use Rattle.std.proofs.Common.{ap}
 use Rattle.rd_base.proofs.MemWrites.{prefix_held}
 use Rattle.rd_base.proofs.mem_sink.MemSinkSink.push.Goals as goal
 
