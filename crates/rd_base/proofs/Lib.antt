@@ -1,3 +1,4 @@
 pub mod Cutting
 pub mod Lookups
+pub mod WordRows
 pub mod MemWrites

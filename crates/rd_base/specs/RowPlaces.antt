@@ -1,5 +1,6 @@
 -- The places in which a list of rows keeps them.
 use Rattle.std.specs.Prelude.{ℕ, ◌≤◌, Bool, if◌then◌else◌, List, [], ◌∷◌, Option, Some, None, IsSome, All, Box}
+use Rattle.rd_base.specs.Swap.{IsRowWord}
 use Rattle.smallvec.specs.SmallVec.{SmallVec}
 
 -- the row in a place, and the empty row in a free one
@@ -7,10 +8,11 @@ abbrev pub row_in : {A : Type 0} → Option (Box (List (List ℕ)) A) → List (
 row_in (Some b) = b.value
 row_in None = []
 
--- places for 256 rows without further memory, and no place in the list is free
+-- places for 256 rows without further memory, no place in the list is free, and all that is kept are words of 16 to 128 bytes
 pub record HasRoomAndRows {A : Type 0} (kept : SmallVec (Option (Box (List (List ℕ)) A))) : Type 0 where
   pub room : 256 ≤ kept.capacity
   pub filled : All IsSome kept.items
+  pub words : All (λ p. All IsRowWord (row_in p)) kept.items
 
 -- the list without the first element that passes
 abbrev pub without_first : {X : Type 0} → (X → Bool) → List X → List X

@@ -1,8 +1,8 @@
 use Rattle.std.proofs.Common.{◌∙◌, Some, None, map, refl, sym, ap, subst, arith}
-use Rattle.std.specs.Prelude.{remove, slice_get, option_map, length, IsSome}
+use Rattle.std.specs.Prelude.{remove, slice_get, option_map, length, IsSome, All}
 use Rattle.std.proofs.lemmas.Option.{slice_get_read, slice_get-map}
 use Rattle.rd_base.specs.RowPlaces.{row_in}
-use Rattle.rd_base.specs.Swap.{shows}
+use Rattle.rd_base.specs.Swap.{shows, IsRowWord}
 use Rattle.rd_base.proofs.Lookups.{place_shown, found_at, found_none, left_at, left_none, map-remove, All-remove, value_in}
 use Rattle.rd_base.proofs.rows.Rows.take_shown.Goals as goal
 
@@ -10,6 +10,7 @@ pub invariant_of-self : goal.invariant_of-self
 invariant_of-self c = record {
   room = omega (arith, c.self.invariant.room, c.remove.ensures.capacity);
   filled = rw c.remove.ensures.items (All-remove IsSome c.self.inside.kept.items c.in-Some.place c.self.invariant.filled);
+  words = rw c.remove.ensures.items (All-remove (λ p. All IsRowWord (row_in p)) c.self.inside.kept.items c.in-Some.place c.self.invariant.words);
 }
 
 pub returns-in-Some-clause-row : goal.returns-in-Some-clause-row
