@@ -20,11 +20,11 @@ use Rattle.rd_rules.specs.Exchange.{Rules, reading, read, scan_open}
 use Rattle.rd_rules.specs.Given.{learnt}
 use Rattle.rd_rules.specs.Trouble.{Now, now_of, trouble_of, or_else, full_log_at, malformed, too_big, unsupported, disagreed, end_trouble, scan_trouble, big_among, is_big, open_asking, is_too_big, link_of, due_of, by_links}
 use Rattle.rd_rules.proofs.Streams.{follows_well-append}
-use Rattle.rd_core.specs.declared.setup.Setup.{Setup}
+use Rattle.rd_reading.specs.declared.setup.Setup.{Setup}
 use Rattle.rd_core.specs.declared.stage.Stage.{Stage}
 use Rattle.rd_core.specs.declared.clock.Clock.{Clock}
-use Rattle.rd_core.specs.Room.{HasRoom}
-use Rattle.rd_core.specs.Seen.{seen_request}
+use Rattle.rd_reading.specs.Room.{HasRoom}
+use Rattle.rd_reading.specs.Seen.{seen_request}
 use Rattle.rd_core.specs.Stages.{seen_stage}
 use Rattle.rd_core.specs.Clocks.{standing}
 use Rattle.rd_core.specs.Kept.{Fits, HasMore, is_oversized}

@@ -8,10 +8,10 @@ use Rattle.rd_rules.specs.Exchange as rule
 use Rattle.rd_rules.specs.Exchange.{Rules, Exchange, Ask}
 use Rattle.rd_rules.specs.Given.{learnt, own_after, exchange_rows}
 use Rattle.rd_rules.specs.Trouble.{ends_by}
-use Rattle.rd_core.specs.declared.exchange.DoneExchange.{DoneExchange}
-use Rattle.rd_core.specs.declared.exchange.Reading.{Reading}
+use Rattle.rd_reading.specs.declared.exchange.DoneExchange.{DoneExchange}
+use Rattle.rd_reading.specs.declared.exchange.Reading.{Reading}
 use Rattle.rd_core.specs.declared.stage.Stage.{Stage}
-use Rattle.rd_core.specs.Seen.{seen_request, seen_exchange, seen_front, seen_reading, rows_are}
+use Rattle.rd_reading.specs.Seen.{seen_request, seen_exchange, seen_front, seen_reading, rows_are}
 use Rattle.rd_core.specs.Stages.{seen_stage}
 use Rattle.rd_core.specs.Standing.{now_from}
 

@@ -8,7 +8,7 @@ use Rattle.rd_base.specs.declared.values.Ending.{Ending}
 use Rattle.rd_base.specs.Limits.{AreLimits}
 use Rattle.rd_dialect.specs.Grammar.{Grammar}
 use Rattle.rd_rules.specs.Exchange as rule
-use Rattle.rd_core.specs.declared.setup.Setup.{Setup}
+use Rattle.rd_reading.specs.declared.setup.Setup.{Setup}
 use Rattle.rd_core.specs.declared.stage.Stage.{Stage}
 use Rattle.rd_core.specs.Stages.{HasAsked}
 

@@ -4,9 +4,9 @@ use Rattle.rd_base.specs.History.{Row}
 use Rattle.rd_dialect.specs.Grammar.{Grammar}
 use Rattle.rd_rules.specs.Trouble.{Now}
 use Rattle.rd_core.specs.declared.stage.Stage.{Stage}
-use Rattle.rd_core.specs.declared.exchange.Request.{Request}
-use Rattle.rd_core.specs.Seen.{seen_front, seen_request}
-use Rattle.rd_core.specs.Whole.{IsAsked}
+use Rattle.rd_reading.specs.declared.exchange.Request.{Request}
+use Rattle.rd_reading.specs.Seen.{seen_front, seen_request}
+use Rattle.rd_reading.specs.Whole.{IsAsked}
 
 -- a stage, with the own rows that stand beside it
 abbrev pub seen_stage : Stage → List Row → Now

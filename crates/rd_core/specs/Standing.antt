@@ -15,7 +15,7 @@ use Rattle.rd_rules.specs.Step.{grow_front_by, given_now}
 use Rattle.rd_rules.specs.Wait.{Wait, wait, which_on, same_wait, some_open, limit_of, began_by}
 use Rattle.rd_rules.specs.Trouble.{Now, now_of, ends_by, trouble_of, unsolicited_by, or_else, full_log_at}
 use Rattle.rd_rules.specs.Sent.{acted, final, sent, sent_past, step_sends}
-use Rattle.rd_core.specs.declared.setup.Setup.{Setup}
+use Rattle.rd_reading.specs.declared.setup.Setup.{Setup}
 use Rattle.rd_core.specs.Faults.{fault_by}
 
 -- where a session stands, and when: the entries so far, their moment, and the moment at which what it waits for began

@@ -3,15 +3,13 @@ ghost use Rattle.rd_base.specs.History.{is_stop};
 ghost use Rattle.rd_rules.specs.Trouble as rule;
 ghost use Rattle.rd_core.specs.Faults.{failing, fault_of, fault_by};
 ghost use Rattle.rd_core.specs.Stages.{seen_stage, HasAsked};
-ghost use Rattle.rd_core.specs.Seen.{seen_request};
+ghost use Rattle.rd_reading.specs.Seen.{seen_request};
 
-use crate::exchange::Request;
-use crate::opens::Open;
-use crate::read::note_of;
 use crate::stage::Stage;
 use crate::trouble::or_else;
 use rd_base::{Bytes, Ending, Limits, Link, NoMemory, Scan, What};
 use rd_dialect::{Dialect, Due, scan_due};
+use rd_reading::{Open, Request, note_of};
 use std::alloc::Global;
 
 fn joined(alloc: Global, first: &[u8], second: &[u8]) -> Result<Bytes, NoMemory>

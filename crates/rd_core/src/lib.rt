@@ -2,20 +2,13 @@
 #![tactic(auto)]
 
 mod clock;
-mod exchange;
 mod faults;
-mod judging;
-mod opens;
 mod plan;
-mod read;
 mod sending;
 mod session;
-mod setup;
 mod stage;
-mod start;
 mod trouble;
-mod unit;
 mod waits;
 
 pub use session::Session;
-pub use setup::Setup;
+pub use rd_reading::Setup;

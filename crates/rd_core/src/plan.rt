@@ -7,19 +7,17 @@ ghost use Rattle.rd_rules.specs.Exchange as rule;
 ghost use Rattle.rd_rules.specs.Given.{learnt, own_after};
 ghost use Rattle.rd_rules.specs.Step.{given_now};
 ghost use Rattle.rd_rules.specs.Trouble.{trouble_of, ends_by};
-ghost use Rattle.rd_core.specs.Whole.{IsDone};
-ghost use Rattle.rd_core.specs.Seen.{seen_exchange, seen_front, seen_reading, rules_of, rows_are};
+ghost use Rattle.rd_reading.specs.Whole.{IsDone};
+ghost use Rattle.rd_reading.specs.Seen.{seen_exchange, seen_front, seen_reading, rules_of, rows_are};
 ghost use Rattle.rd_core.specs.Stages.{seen_stage, HasAsked};
 ghost use Rattle.rd_core.specs.Standing.{now_from};
 
-use crate::exchange::{DoneExchange, Front, Reading};
-use crate::read::{note_of, read_on};
 use crate::sending::sends_of;
-use crate::setup::Setup;
 use crate::stage::Stage;
 use crate::trouble::trouble_of;
 use rd_base::{Ending, NoMemory, Rows, Sends};
 use rd_dialect::Dialect;
+use rd_reading::{DoneExchange, Front, Reading, Setup, note_of, read_on};
 use std::alloc::Global;
 
 /// What a step does, worked out before anything changes.

@@ -5,18 +5,15 @@ ghost use Rattle.rd_base.specs.Sent.{send_of, sends_to};
 ghost use Rattle.rd_base.specs.Swap.{shows};
 ghost use Rattle.rd_base.specs.OwnRows.{learn_row, shown_of};
 ghost use Rattle.rd_rules.specs.Given.{forwarded, handed_back, asks_on, releases, learnt};
-ghost use Rattle.rd_core.specs.Whole.{IsAsked, IsDone};
+ghost use Rattle.rd_reading.specs.Whole.{IsAsked, IsDone};
 ghost use Rattle.rd_core.specs.Stages.{HasAsked};
-ghost use Rattle.rd_core.specs.Seen.{seen_request, seen_exchange, seen_reading, rules_of, rows_are};
+ghost use Rattle.rd_reading.specs.Seen.{seen_request, seen_exchange, seen_reading, rules_of, rows_are};
 ghost use Rattle.rd_rules.specs.Step.{given_now, sent_before};
 ghost use Rattle.rd_core.specs.Sending.{latest_of};
 
-use crate::exchange::{DoneExchange, Reading, Request};
-use crate::read::note_of;
-use crate::setup::Setup;
-use crate::unit::first_bytes;
 use rd_base::{Bytes, Link, NoMemory, Row, Rows, Sends, Side};
 use rd_dialect::Dialect;
+use rd_reading::{DoneExchange, Reading, Request, Setup, first_bytes, note_of};
 use std::alloc::Global;
 
 /// A request as a link that answers is given it.

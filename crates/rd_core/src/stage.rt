@@ -1,4 +1,4 @@
-use crate::exchange::{Front, Request};
+use rd_reading::{Front, Request};
 
 /// Where a session stands: how many exchanges are done, whether the last of them is a farewell, what is
 /// open past them, and the request that is out.

@@ -6,16 +6,12 @@ ghost use Rattle.rd_rules.specs.Exchange.{scan_open as open_scan};
 ghost use Rattle.rd_rules.specs.Trouble as rule;
 ghost use Rattle.rd_rules.specs.Wait as wait;
 ghost use Rattle.rd_core.specs.Stages.{seen_stage, HasAsked};
-ghost use Rattle.rd_core.specs.Seen.{seen_front, seen_request, rules_of};
+ghost use Rattle.rd_reading.specs.Seen.{seen_front, seen_request, rules_of};
 
-use crate::exchange::{Front, Request};
-use crate::judging::early_fault;
-use crate::opens::{Open, past_units, scan_open};
-use crate::read::note_of;
-use crate::setup::Setup;
 use crate::stage::Stage;
 use rd_base::{Bytes, Ending, Limits, Link, NoMemory, Scan, Side, What};
 use rd_dialect::{Dialect, Due, scan_due};
+use rd_reading::{Front, Open, Request, Setup, early_fault, note_of, past_units, scan_open};
 use std::alloc::Global;
 
 /// Which unit is due.

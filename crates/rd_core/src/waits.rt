@@ -7,10 +7,10 @@ ghost use Rattle.rd_core.specs.Stages.{seen_stage};
 ghost use Rattle.rd_core.specs.Clocks.{standing};
 
 use crate::clock::Clock;
-use crate::setup::Setup;
 use crate::stage::Stage;
 use crate::trouble::some_open;
 use rd_base::{Ending, Limits, Side, What, Which};
+use rd_reading::Setup;
 
 /// What a session waits for, by whether something is out and whether a request was begun.
 fn which_on(side: Side, out: bool, begun: bool) -> Which

@@ -8,7 +8,7 @@ use Rattle.rd_base.specs.declared.sends.Send.{Send}
 use Rattle.rd_dialect.specs.Grammar.{Grammar}
 use Rattle.rd_rules.specs.Exchange.{Rules}
 use Rattle.rd_rules.specs.Sent.{sent, sent_past}
-use Rattle.rd_core.specs.Seen.{rules_of}
+use Rattle.rd_reading.specs.Seen.{rules_of}
 use Rattle.rd_core.specs.Standing as core
 use Rattle.rd_core.specs.Standing.{IsIncoming, SendsMore}
 use Rattle.rd_in_core.specs.Seen.{Seen, seen_in, IsAt, session_rules}

@@ -118,7 +118,14 @@ abbrev pub agreed_on : Side → Reading → ℕ
 agreed_on Incoming now = length now.done
 agreed_on Outgoing now = length (released now)
 
+-- how many places are masked in the replies of an exchange, and in a request
+abbrev pub replies_masked : Rules → Exchange → ℕ
+replies_masked r x = length (agreed_mask r.limits.mask (reply_lists r x))
+
+abbrev pub ask_masked : Rules → Ask → ℕ
+ask_masked r ask = length (agreed_mask r.limits.mask (ask_lists r ask))
+
 -- how many places are masked in agreed exchanges: incoming of replies, outgoing of calls
 abbrev pub masked_on : Side → Rules → Reading → ℕ
-masked_on Incoming r now = sum (map (λ x. length (agreed_mask r.limits.mask (reply_lists r x))) now.done)
-masked_on Outgoing r now = sum (map (λ ask. length (agreed_mask r.limits.mask (ask_lists r ask))) (released now))
+masked_on Incoming r now = sum (map (replies_masked r) now.done)
+masked_on Outgoing r now = sum (map (ask_masked r) (released now))

@@ -5,5 +5,6 @@ pub mod Given
 pub mod Wait
 pub mod Trouble
 pub mod Sent
+pub mod Wanted
 pub mod Laws
 pub mod WorkedRows

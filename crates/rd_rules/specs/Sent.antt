@@ -1,12 +1,13 @@
 -- The ending of a session, what each link has been sent, and the transcript.
-use Rattle.std.specs.Prelude.{ℕ, zero, suc, ◌+◌, List, [], ◌∷◌, ◌++◌, length, take, drop, Option, Some, None, is_some, option_and_then, if◌then◌else◌}
+use Rattle.std.specs.Prelude.{ℕ, zero, suc, ◌+◌, List, [], ◌∷◌, ◌++◌, length, take, drop, Option, Some, None, is_some, option_and_then, unwrap_or, if◌then◌else◌}
+use Rattle.std.specs.List.{flat_map}
 use Rattle.rd_base.specs.Words.{without_last}
 use Rattle.rd_base.specs.Sent.{sends_to}
-use Rattle.rd_base.specs.History.{History, shortest}
+use Rattle.rd_base.specs.History.{History, Row, shortest}
 use Rattle.rd_base.specs.declared.values.Ending.{Ending}
 use Rattle.rd_base.specs.declared.sends.Send.{Send}
 use Rattle.rd_rules.specs.Exchange.{Rules, reading}
-use Rattle.rd_rules.specs.Given.{given, agreed_on, masked_on}
+use Rattle.rd_rules.specs.Given.{given, agreed_on, masked_on, exchange_rows}
 use Rattle.rd_rules.specs.Trouble.{trouble, unsolicited}
 
 -- the shortest prefix that has a trouble
@@ -40,6 +41,16 @@ exchanges r h = agreed_on r.side (reading r (acted r h))
 -- how many places are masked in them
 abbrev pub masked : Rules → History → ℕ
 masked r h = masked_on r.side r (reading r (acted r h))
+
+-- the history up to the entry that ended the session; all of it where none did
+abbrev pub taken : Rules → History → History
+taken r h = unwrap_or (stop r h) h
+
+-- the rows of the exchanges that became agreed in the last entry that was taken
+abbrev pub agreed_rows : Rules → History → List Row
+agreed_rows r h =
+    flat_map (exchange_rows r)
+    (drop (length (reading r (acted r (without_last (taken r h)))).done) (reading r (acted r h)).done)
 
 -- what a link has been sent by a later history past what it had been sent
 abbrev pub sent_past : Rules → History → History → ℕ → List ℕ

@@ -1,10 +1,12 @@
 -- What is read once more has been heard, from what was read before.
-use Rattle.std.specs.Prelude.{ℕ, ◌-◌, ◌||◌, Bool, true, false, List, ◌++◌, length, map, drop, if◌then◌else◌}
+use Rattle.std.specs.Prelude.{ℕ, ◌-◌, ◌||◌, Bool, true, false, List, ◌++◌, length, map, sum, drop, if◌then◌else◌}
 use Rattle.std.specs.List.{flat_map}
 use Rattle.rd_base.specs.declared.values.What.{What}
+use Rattle.rd_base.specs.declared.values.Side.{Side}
+use Rattle.rd_base.specs.declared.values.Side.TheVariants.{Incoming, Outgoing}
 use Rattle.rd_base.specs.History.{History, Row, stream, ended, piece_of, ends}
-use Rattle.rd_rules.specs.Exchange.{Rules, Open, Front, Reading, Exchange, read}
-use Rattle.rd_rules.specs.Given.{forwarded, handed_back, is_asker, releases}
+use Rattle.rd_rules.specs.Exchange.{Rules, Open, Front, Reading, Exchange, read, released}
+use Rattle.rd_rules.specs.Given.{forwarded, handed_back, is_asker, releases, replies_masked, ask_masked}
 
 -- what more has come of a link
 abbrev pub grow : History → Open → Open
@@ -39,3 +41,8 @@ given_now r l own told was_out now =
     if is_asker r l
     then flat_map (handed_back r) now.done
     else flat_map (forwarded r l told) (drop (sent_before was_out) (releases r own now.done now.out))
+
+-- how many places are masked in what a step agrees on: in replies, or in the requests that weren't sent before
+abbrev pub masked_now : Side → Rules → Bool → Reading → ℕ
+masked_now Incoming r was_out now = sum (map (replies_masked r) now.done)
+masked_now Outgoing r was_out now = sum (map (ask_masked r) (drop (sent_before was_out) (released now)))

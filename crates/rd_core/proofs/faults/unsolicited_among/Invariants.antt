@@ -1,7 +1,7 @@
 use Rattle.std.proofs.Common.{◌≡◌, drop}
 use Rattle.std.specs.Prelude.{option_map}
 use Rattle.rd_rules.specs.Trouble as rule
-use Rattle.rd_core.specs.Seen.{seen_request}
+use Rattle.rd_reading.specs.Seen.{seen_request}
 use Rattle.rd_core.proofs.faults.unsolicited_among.Given as goal
 
 abbrev pub invariant-loop-one : goal.invariant-loop-one

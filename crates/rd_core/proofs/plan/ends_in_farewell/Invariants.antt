@@ -1,6 +1,6 @@
 use Rattle.std.proofs.Common.{◌≡◌, drop, map}
 use Rattle.rd_rules.specs.Trouble.{ends_by}
-use Rattle.rd_core.specs.Seen.{seen_exchange}
+use Rattle.rd_reading.specs.Seen.{seen_exchange}
 use Rattle.rd_core.proofs.plan.ends_in_farewell.Given as goal
 
 abbrev pub invariant-loop-exchange : goal.invariant-loop-exchange

@@ -1,8 +1,8 @@
 use Rattle.std.proofs.Common.{ap, ◌∙◌}
 use Rattle.std.specs.List.{flat_map}
 use Rattle.rd_rules.specs.Exchange as rule
-use Rattle.rd_core.specs.declared.exchange.DoneExchange.{DoneExchange}
-use Rattle.rd_core.specs.Seen.{rules_of, seen_front}
+use Rattle.rd_reading.specs.declared.exchange.DoneExchange.{DoneExchange}
+use Rattle.rd_reading.specs.Seen.{rules_of, seen_front}
 use Rattle.std.proofs.Common.{◌-◌}
 use Rattle.rd_core.proofs.Planned.{stage_is}
 use Rattle.rd_core.proofs.plan.plan_of.Goals as goal

@@ -1,7 +1,7 @@
 use Rattle.std.proofs.Common.{ap, ◌∙◌}
 use Rattle.rd_rules.specs.Exchange.{first_bytes}
-use Rattle.rd_core.specs.Seen.{seen_request}
-use Rattle.rd_core.proofs.WholeUnits.{answered_by}
+use Rattle.rd_reading.specs.Seen.{seen_request}
+use Rattle.rd_reading.proofs.WholeUnits.{answered_by}
 use Rattle.rd_core.proofs.sending.hand_back.Goals as goal
 
 pub shown_from-from-requires : goal.shown_from-from-requires

@@ -1,7 +1,7 @@
 use Rattle.std.proofs.Common.{subst, sym}
-use Rattle.rd_core.specs.declared.exchange.DoneExchange.{DoneExchange}
-use Rattle.rd_core.specs.Whole.{IsDone}
-use Rattle.rd_core.specs.Seen.{seen_exchange}
+use Rattle.rd_reading.specs.declared.exchange.DoneExchange.{DoneExchange}
+use Rattle.rd_reading.specs.Whole.{IsDone}
+use Rattle.rd_reading.specs.Seen.{seen_exchange}
 use Rattle.rd_core.proofs.sending.replies_for.Goals as goal
 
 pub hand_back-requires : goal.hand_back-requires

@@ -1,7 +1,7 @@
 use Rattle.std.proofs.Common.{◌≡◌, ◌++◌, drop, map}
 use Rattle.std.specs.List.{flat_map}
 use Rattle.rd_rules.specs.Given.{handed_back}
-use Rattle.rd_core.specs.Seen.{seen_exchange, rules_of}
+use Rattle.rd_reading.specs.Seen.{seen_exchange, rules_of}
 use Rattle.rd_core.proofs.sending.replies_for.Given as goal
 
 abbrev pub invariant-loop-exchange : goal.invariant-loop-exchange

@@ -2,7 +2,7 @@ use Rattle.std.proofs.Common.{◌≡◌, ◌++◌, drop, map}
 use Rattle.std.specs.Prelude.{option_map}
 use Rattle.std.specs.List.{flat_map}
 use Rattle.rd_rules.specs.Given.{forwarded, releases}
-use Rattle.rd_core.specs.Seen.{seen_request, seen_exchange, rules_of, rows_are}
+use Rattle.rd_reading.specs.Seen.{seen_request, seen_exchange, rules_of, rows_are}
 use Rattle.rd_rules.specs.Step.{sent_before}
 use Rattle.rd_core.specs.Sending.{latest_of}
 use Rattle.rd_core.proofs.sending.requests_for.Given as goal

@@ -2,7 +2,7 @@ use Rattle.std.proofs.Common.{◌∙◌, ap, sym, ◌++◌, ◌<◌, ℕ, add-on
 use Rattle.std.proofs.lemmas.List.Elements.{All-same}
 use Rattle.rd_base.specs.Sent.{send_of, sends_to}
 use Rattle.rd_base.specs.declared.sends.Send.{Send}
-use Rattle.rd_core.specs.Seen.{rules_of, seen_reading}
+use Rattle.rd_reading.specs.Seen.{rules_of, seen_reading}
 use Rattle.rd_rules.specs.Step.{given_now}
 use Rattle.rd_core.proofs.Learning.{sends_to-more, sends_below}
 use Rattle.rd_core.proofs.sending.sends_of.Goals as goal

@@ -1,6 +1,6 @@
 use Rattle.std.proofs.Common.{◌≡◌}
 use Rattle.rd_base.specs.Sent.{sends_to}
-use Rattle.rd_core.specs.Seen.{rules_of, seen_reading}
+use Rattle.rd_reading.specs.Seen.{rules_of, seen_reading}
 use Rattle.rd_rules.specs.Step.{given_now}
 use Rattle.rd_core.proofs.sending.sends_of.Given as goal
 

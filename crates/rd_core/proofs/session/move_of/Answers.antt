@@ -6,7 +6,7 @@ use Rattle.rd_rules.specs.Exchange as rule
 use Rattle.rd_rules.specs.Step.{given_now}
 use Rattle.rd_rules.specs.Trouble.{full_log_at, or_else}
 use Rattle.rd_core.specs.Faults.{fault_by}
-use Rattle.rd_core.specs.Seen.{rules_of, seen_front, seen_request}
+use Rattle.rd_reading.specs.Seen.{rules_of, seen_front, seen_request}
 use Rattle.rd_core.specs.Stages.{seen_stage}
 use Rattle.rd_core.specs.Standing.{next_reading, late_at}
 use Rattle.rd_core.specs.Clocks.{standing, entry_of}

@@ -1,6 +1,6 @@
 use Rattle.std.proofs.Common.{◌≡◌, false, ap, sym, ◌∙◌}
 use Rattle.std.specs.Prelude.{is_some}
-use Rattle.rd_core.specs.Seen.{rules_of}
+use Rattle.rd_reading.specs.Seen.{rules_of}
 use Rattle.rd_core.specs.Standing.{due_at, wait_at}
 use Rattle.rd_core.proofs.Taken.{due_is, none_of}
 use Rattle.rd_core.proofs.session.Session.due.Goals as goal

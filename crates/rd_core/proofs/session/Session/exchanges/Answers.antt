@@ -2,7 +2,7 @@ use Rattle.std.proofs.Common.{ap, sym, ◌∙◌}
 use Rattle.rd_rules.specs.Exchange.{reading}
 use Rattle.rd_rules.specs.Given.{agreed_on}
 use Rattle.rd_rules.specs.Sent.{acted}
-use Rattle.rd_core.specs.Seen.{rules_of}
+use Rattle.rd_reading.specs.Seen.{rules_of}
 use Rattle.rd_core.proofs.session.Session.exchanges.Goals as goal
 
 pub returns : goal.returns

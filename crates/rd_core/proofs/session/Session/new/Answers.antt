@@ -1,7 +1,7 @@
 use Rattle.std.proofs.Common.{◌≡◌, ◌-◌, ap, ap₂, sym, ◌∙◌, arith, refl, false, [], None}
 use Rattle.rd_rules.specs.Exchange as rule
 use Rattle.rd_rules.specs.Given.{learnt}
-use Rattle.rd_core.specs.Seen.{rules_of, seen_front}
+use Rattle.rd_reading.specs.Seen.{rules_of, seen_front}
 use Rattle.rd_core.specs.Stages.{seen_stage}
 use Rattle.rd_core.specs.Standing.{now_from}
 use Rattle.rd_core.specs.Clocks.{standing}

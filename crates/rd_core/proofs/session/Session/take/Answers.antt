@@ -1,6 +1,6 @@
 use Rattle.std.proofs.Common.{◌≡◌, sym, ◌∙◌, ap, true, false}
 use Rattle.std.specs.Prelude.{is_some}
-use Rattle.rd_core.specs.Seen.{rules_of}
+use Rattle.rd_reading.specs.Seen.{rules_of}
 use Rattle.rd_core.specs.Clocks.{entry_of}
 use Rattle.rd_core.proofs.Moves.{not_oversized}
 use Rattle.rd_core.proofs.Taken.{over_at, over_sent, result_at, result_sent, none_of}

@@ -1,0 +1,4 @@
+pub mod Larger
+pub mod Cutting
+pub mod WholeUnits
+pub mod ReadSteps

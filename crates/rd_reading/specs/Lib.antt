@@ -1,0 +1,4 @@
+pub mod Room
+pub mod Heard
+pub mod Whole
+pub mod Seen

@@ -1,0 +1,50 @@
+ghost use Rattle.std.specs.Prelude.{◌≤◌, length};
+
+use crate::opens::Open;
+use crate::unit::LinkUnit;
+use rd_base::{Phase, Rows};
+
+/// The requests of an exchange, one by each link that asks, and how many places are masked in them.
+#[derive(Drop)]
+pub struct Request {
+    pub phase: Phase,
+    pub units: Vec<LinkUnit>,
+    pub masked: u8,
+}
+
+/// The replies to a request, how many places are masked in them, and their rows.
+#[derive(Drop)]
+pub struct Replies {
+    pub units: Vec<LinkUnit>,
+    pub masked: u8,
+    pub rows: Rows,
+}
+
+/// A whole exchange.
+#[derive(Drop)]
+pub struct DoneExchange {
+    pub request: Request,
+    pub replies: Replies,
+}
+
+/// What is open before an exchange, of 1 to 8 links on either side.
+#[derive(Drop)]
+pub struct Front {
+    pub phase: Phase,
+    pub asking: Vec<Open>,
+    pub answering: Vec<Open>,
+    ghost some_ask: { 1 ≤ length asking.items },
+    ghost few_ask: { length asking.items ≤ 8 },
+    ghost some_answer: { 1 ≤ length answering.items },
+    ghost few_answer: { length answering.items ≤ 8 },
+}
+
+/// What was read of a front: the exchanges, what is open past them, the request that is out, and how many
+/// exchanges more might have been read.
+#[derive(Drop)]
+pub struct Reading {
+    pub done: Vec<DoneExchange>,
+    pub left: Front,
+    pub out: Option<Request>,
+    pub spare: u32,
+}

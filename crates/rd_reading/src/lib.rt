@@ -1,0 +1,18 @@
+// What is open of the links of a session, and the exchanges that are read of it.
+#![tactic(auto)]
+
+mod exchange;
+mod judging;
+mod opens;
+mod read;
+mod setup;
+mod start;
+mod unit;
+
+pub use exchange::{DoneExchange, Front, Reading, Replies, Request};
+pub use judging::early_fault;
+pub use opens::{Open, past_units, scan_open};
+pub use read::{grow_front, note_of, read_on};
+pub use setup::Setup;
+pub use start::start_front;
+pub use unit::{LinkUnit, first_bytes};
