@@ -20,8 +20,7 @@ use Rattle.rd_rules.specs.Wait.{Wait, wait, same_wait, began_by, due_moment, lim
 use Rattle.rd_rules.specs.Trouble.{Now, now_of, ends_by, trouble_of, trouble, or_else, unsolicited, unsolicited_at, unsolicited_by, first_trouble, link_fault, stopped, late, is_timer_entry, full_log_at}
 use Rattle.rd_rules.specs.Sent.{stop, final, acted, acted_of, sent, sent_past}
 use Rattle.rd_rules.proofs.Steps.{reading-append}
-use Rattle.rd_rules.proofs.Stays.{stop-append}
-use Rattle.rd_rules.proofs.Stops.{none_so_far, test_of_shortest}
+use Rattle.rd_rules.proofs.Acted.{not_both, no_stop, no_trouble, stop_next, last_of, front_of, acted_live, acted_by, acted_next, some_stop, front_follows}
 use Rattle.rd_rules.proofs.GivenSteps.{given_next, own_after-append}
 use Rattle.rd_rules.proofs.Moments.{began_next, moment_next}
 use Rattle.rd_core.proofs.Learning.{sends_to-more}
@@ -64,60 +63,16 @@ now_next r now next =
 
 -- ---- the ending, one happening further
 
-not_both : (o : Option Ending) → is_some o ≡ true → o ≡ None → ⊥
-not_both None t n = absurd (cc t)
-not_both (Some x) t n = absurd (cc n)
-
-no_stop_by : (r : Rules) (h : History) (o : Option History) → stop r h ≡ o → option_and_then (trouble r) o ≡ None → o ≡ None
-no_stop_by r h None s q = refl
-no_stop_by r h (Some g) s q = absurd (not_both (trouble r g) (test_of_shortest (λ g. is_some (trouble r g)) [] h g s) q)
-
-no_stop : (r : Rules) (h : History) → final r h ≡ None → stop r h ≡ None
-no_stop r h q = no_stop_by r h (stop r h) refl q
-
-no_trouble_by : (o : Option Ending) → is_some o ≡ false → o ≡ None
-no_trouble_by None e = refl
-no_trouble_by (Some x) e = cc
-
-no_trouble : (r : Rules) (h : History) → final r h ≡ None → trouble r h ≡ None
-no_trouble r h q = no_trouble_by (trouble r h) (none_so_far (λ g. is_some (trouble r g)) [] h [] (no_stop r h q)).0
-
 or_else_none : (a b : Option Ending) → or_else a b ≡ None → a ≡ None
 or_else_none None b e = refl
 or_else_none (Some x) b e = cc
-
-stop_next : (r : Rules) (h : History) (e : Entry) → stop r h ≡ None → stop r (h ++ e ∷ []) ≡ cond (is_some (trouble r (h ++ e ∷ []))) (Some (h ++ e ∷ [])) None
-stop_next r h e n =
-    let so_far = none_so_far (λ g. is_some (trouble r g)) [] h (e ∷ []) n in
-    so_far.1 ∙ ap (λ b. cond b (Some h) (cond (is_some (trouble r (h ++ e ∷ []))) (Some (h ++ e ∷ [])) None)) so_far.0
 
 final_by : (f : History → Option Ending) (h : History) (o : Option Ending) → f h ≡ o → option_and_then f (cond (is_some o) (Some h) None) ≡ o
 final_by f h None is = refl
 final_by f h (Some t) is = is
 
-last_of : (h : History) (e : Entry) → last_of_list (h ++ e ∷ []) ≡ Some e
-last_of [] e = refl
-last_of (x ∷ []) e = refl
-last_of (x ∷ y ∷ h) e = last_of (y ∷ h) e
-
-front_of : (h : History) (e : Entry) → without_last (h ++ e ∷ []) ≡ h
-front_of [] e = refl
-front_of (x ∷ []) e = refl
-front_of (x ∷ y ∷ h) e = ap (λ xs. x ∷ xs) (front_of (y ∷ h) e)
-
 unsolicited_next : (r : Rules) (h : History) (e : Entry) → unsolicited r (h ++ e ∷ []) ≡ unsolicited_by r.grammar (now_of r (reading r h)) e.what
 unsolicited_next r h e = ap₂ (unsolicited_at r) (last_of h e) (ap (reading r) (front_of h e))
-
-pub acted_live : (r : Rules) (h : History) → final r h ≡ None → acted r h ≡ h
-acted_live r h q = ap (acted_of r h) (no_stop r h q)
-
-acted_by : (r : Rules) (h : History) (b : Bool) → unsolicited r h ≡ None → acted_of r h (cond b (Some h) None) ≡ h
-acted_by r h true u = ap (λ o. cond (is_some o) (without_last h) h) u
-acted_by r h false u = refl
-
--- nothing is withheld
-pub acted_next : (r : Rules) (h : History) (e : Entry) → final r h ≡ None → unsolicited r (h ++ e ∷ []) ≡ None → acted r (h ++ e ∷ []) ≡ h ++ e ∷ []
-acted_next r h e q u = ap (acted_of r (h ++ e ∷ [])) (stop_next r h e (no_stop r h q)) ∙ acted_by r (h ++ e ∷ []) (is_some (trouble r (h ++ e ∷ []))) u
 
 pub final_next : (r : Rules) (h : History) (e : Entry) → final r h ≡ None → final r (h ++ e ∷ []) ≡ trouble r (h ++ e ∷ [])
 final_next r h e q = ap (option_and_then (trouble r)) (stop_next r h e (no_stop r h q)) ∙ final_by (trouble r) (h ++ e ∷ []) (trouble r (h ++ e ∷ [])) refl
@@ -174,23 +129,6 @@ acted_held r h e x q u =
     ∙ ap (λ o. acted_of r (h ++ e ∷ []) (cond (is_some o) (Some (h ++ e ∷ [])) None)) (trouble_held r h e x q u)
     ∙ ap (λ o. cond (is_some o) (without_last (h ++ e ∷ [])) (h ++ e ∷ [])) u
     ∙ front_of h e
-
-some_stop_by : (r : Rules) (h : History) (e : Entry) (o : Option History) → stop r h ≡ o → is_some (option_and_then (trouble r) o) ≡ true → (acted r (h ++ e ∷ []) ≡ acted r h) × (final r (h ++ e ∷ []) ≡ final r h)
-some_stop_by r h e None s q = cc
-some_stop_by r h e (Some g) s q =
-    let later = stop-append r h (e ∷ []) g s in
-    (ap (acted_of r (h ++ e ∷ [])) later ∙ sym (ap (acted_of r h) s), ap (option_and_then (trouble r)) (later ∙ sym s))
-
-pub some_stop : (r : Rules) (h : History) (e : Entry) → is_some (final r h) ≡ true → (acted r (h ++ e ∷ []) ≡ acted r h) × (final r (h ++ e ∷ []) ≡ final r h)
-some_stop r h e q = some_stop_by r h e (stop r h) refl q
-
-both_true : (a b c : Bool) → (a && b) ≡ true → (b ≡ true → c ≡ true) → (a && c) ≡ true
-both_true true b c e f = f e
-both_true false b c e f = cc
-
-front_follows : (n : ℕ) (seen h e : History) → follows_well n seen (h ++ e) ≡ true → follows_well n seen h ≡ true
-front_follows n seen [] e w = refl
-front_follows n seen (x ∷ h) e w = both_true (may_follow n seen x.what) (follows_well n (seen ++ x ∷ []) (h ++ e)) (follows_well n (seen ++ x ∷ []) h) w (front_follows n (seen ++ x ∷ []) h e)
 
 -- ---- a step of a session
 

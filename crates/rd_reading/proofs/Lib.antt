@@ -2,3 +2,4 @@ pub mod Larger
 pub mod Cutting
 pub mod WholeUnits
 pub mod ReadSteps
+pub mod FewMasks

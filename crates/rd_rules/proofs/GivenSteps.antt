@@ -58,18 +58,18 @@ cancel : (xs ys zs : List Ask) → xs ++ ys ≡ xs ++ zs → ys ≡ zs
 cancel [] ys zs e = e
 cancel (x ∷ xs) ys zs e = cancel xs ys zs (ap (drop 1) e)
 
-released_done : (xs : List Exchange) (r : Reading) → released (with_done xs r) ≡ map (λ (x : Exchange). x.ask) xs ++ released r
+pub released_done : (xs : List Exchange) (r : Reading) → released (with_done xs r) ≡ map (λ (x : Exchange). x.ask) xs ++ released r
 released_done xs r = ap (λ cs. cs ++ out_list r.out) (map-append (λ (x : Exchange). x.ask) xs r.done) ∙ append_assoc (map (λ (x : Exchange). x.ask) xs) (map (λ (x : Exchange). x.ask) r.done) (out_list r.out)
 
 -- what is out before is what is read first
-out_first : (now next : Reading) → Grown now (with_done now.done next) → (rest : List Ask) × (out_list now.out ++ rest ≡ released next)
+pub out_first : (now next : Reading) → Grown now (with_done now.done next) → (rest : List Ask) × (out_list now.out ++ rest ≡ released next)
 out_first now next grown =
     let asks = map (λ (x : Exchange). x.ask) now.done in
     let rest = grown.requests.0 in
     (rest, cancel asks (out_list now.out ++ rest) (released next) (sym (append_assoc asks (out_list now.out) rest) ∙ grown.requests.1 ∙ released_done now.done next))
 
 -- all releases, one entry further
-releases-next : (r : Rules) (now next : Reading) → Grown now (with_done now.done next)
+pub releases-next : (r : Rules) (now next : Reading) → Grown now (with_done now.done next)
     → releases r [] (now.done ++ next.done) next.out ≡ releases r [] now.done now.out ++ drop (sent_before (is_some now.out)) (releases r (own_after r [] now.done) next.done next.out)
 releases-next r now next grown =
     let own = own_after r [] now.done in

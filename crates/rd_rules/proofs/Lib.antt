@@ -1,4 +1,5 @@
 pub mod Grows
+pub mod Outs
 pub mod Streams
 pub mod Steps
 pub mod Stays
@@ -6,3 +7,5 @@ pub mod Stops
 pub mod Telling
 pub mod GivenSteps
 pub mod Moments
+pub mod Masks
+pub mod Acted

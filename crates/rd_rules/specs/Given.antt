@@ -1,5 +1,5 @@
 -- What each link is given.
-use Rattle.std.specs.Prelude.{ℕ, suc, Bool, false, List, [], ◌∷◌, ◌++◌, length, drop, map, sum, Option, Some, None, if◌then◌else◌, ◌==◌, nat_le, nat_lt, unwrap_or, option_map, option_and_then, fold}
+use Rattle.std.specs.Prelude.{ℕ, suc, Bool, false, List, [], ◌∷◌, ◌++◌, length, drop, map, sum_by, Option, Some, None, if◌then◌else◌, ◌==◌, nat_le, nat_lt, unwrap_or, option_map, option_and_then, fold}
 use Rattle.std.specs.List.{flat_map}
 use Rattle.rd_base.specs.declared.values.MaskLimits.{MaskLimits}
 use Rattle.rd_base.specs.declared.values.Side.{Side}
@@ -127,5 +127,5 @@ ask_masked r ask = length (agreed_mask r.limits.mask (ask_lists r ask))
 
 -- how many places are masked in agreed exchanges: incoming of replies, outgoing of calls
 abbrev pub masked_on : Side → Rules → Reading → ℕ
-masked_on Incoming r now = sum (map (replies_masked r) now.done)
-masked_on Outgoing r now = sum (map (ask_masked r) (released now))
+masked_on Incoming r now = sum_by (replies_masked r) now.done
+masked_on Outgoing r now = sum_by (ask_masked r) (released now)

@@ -1,5 +1,5 @@
 -- What is read once more has been heard, from what was read before.
-use Rattle.std.specs.Prelude.{ℕ, ◌-◌, ◌||◌, Bool, true, false, List, ◌++◌, length, map, sum, drop, if◌then◌else◌}
+use Rattle.std.specs.Prelude.{ℕ, ◌-◌, ◌||◌, Bool, true, false, List, ◌++◌, length, map, sum_by, drop, if◌then◌else◌}
 use Rattle.std.specs.List.{flat_map}
 use Rattle.rd_base.specs.declared.values.What.{What}
 use Rattle.rd_base.specs.declared.values.Side.{Side}
@@ -44,5 +44,5 @@ given_now r l own told was_out now =
 
 -- how many places are masked in what a step agrees on: in replies, or in the requests that weren't sent before
 abbrev pub masked_now : Side → Rules → Bool → Reading → ℕ
-masked_now Incoming r was_out now = sum (map (replies_masked r) now.done)
-masked_now Outgoing r was_out now = sum (map (ask_masked r) (drop (sent_before was_out) (released now)))
+masked_now Incoming r was_out now = sum_by (replies_masked r) now.done
+masked_now Outgoing r was_out now = sum_by (ask_masked r) (drop (sent_before was_out) (released now))

@@ -1,7 +1,8 @@
-ghost use Rattle.rd_rules.specs.Laws.{EndingsStay, ReadsOn};
+ghost use Rattle.rd_rules.specs.Laws.{EndingsStay, ReadsOn, SentStays};
 
 /// Laws of the definitions, for every grammar that obeys its own.
 pub fn session_laws()
     ensures endings_stay { EndingsStay }
     ensures reads_on { ReadsOn }
+    ensures sent_stays { SentStays }
 {}
