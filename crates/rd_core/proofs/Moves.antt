@@ -19,15 +19,18 @@ use Rattle.rd_rules.specs.Exchange as rule
 use Rattle.rd_rules.specs.Exchange.{Rules, reading, read, scan_open}
 use Rattle.rd_rules.specs.Given.{learnt}
 use Rattle.rd_rules.specs.Trouble.{Now, now_of, trouble_of, or_else, full_log_at, malformed, too_big, unsupported, disagreed, end_trouble, scan_trouble, big_among, is_big, open_asking, is_too_big, link_of, due_of, by_links}
+use Rattle.rd_rules.specs.Step.{grow_front_by}
+use Rattle.rd_rules.proofs.Outs.{IsShort, short_grown, short_out, short_out_after, short_with, out_at}
+use Rattle.rd_dialect.specs.Laws.{Lawful}
 use Rattle.rd_rules.proofs.Streams.{follows_well-append}
 use Rattle.rd_reading.specs.declared.setup.Setup.{Setup}
 use Rattle.rd_core.specs.declared.stage.Stage.{Stage}
 use Rattle.rd_core.specs.declared.clock.Clock.{Clock}
 use Rattle.rd_reading.specs.Room.{HasRoom}
-use Rattle.rd_reading.specs.Seen.{seen_request}
+use Rattle.rd_reading.specs.Seen.{seen_request, seen_front}
 use Rattle.rd_core.specs.Stages.{seen_stage}
 use Rattle.rd_core.specs.Clocks.{standing}
-use Rattle.rd_core.specs.Kept.{Fits, HasMore, is_oversized}
+use Rattle.rd_core.specs.Kept.{Fits, UnitFits, IsOut, HasMore, is_oversized}
 use Rattle.rd_core.specs.Standing.{next_reading, now_from, now_after, began_at, standing_by, standing_after}
 
 pub is_some-map : {A B : Type 0} (f : A → B) (o : Option A) → is_some (option_map f o) ≡ is_some o
@@ -64,25 +67,22 @@ all_small g most is_due due (o ∷ os) e = go (λ q. all_small g most is_due due
     go ih false is q =
         All-cons (Fits most) o os (le_of most (length o.bytes) (either_false (nat_lt most (length o.bytes)) (is_due && is_too_big (scan_open g due o)) is)) (ih q)
 
-pub fits : (r : Rules) (stage : Stage) → r.side ≡ Incoming → trouble_of r (seen_stage stage []) ≡ None
-    → All (Fits r.limits.unit_max) stage.left.asking.items × All (Fits r.limits.unit_max) stage.left.answering.items
-fits r stage side none =
+pub fits : (r : Rules) (stage : Stage) → trouble_of r (seen_stage stage []) ≡ None
+    → All (Fits r.limits.unit_max) (open_asking r.side stage.left.asking.items (option_map seen_request stage.out)) × All (Fits r.limits.unit_max) stage.left.answering.items
+fits r stage none =
     let now = seen_stage stage [] in
     let scans : scan_trouble r now ≡ None = or_left (scan_trouble r now) (or_else (disagreed r now) (end_trouble r now)) none in
     let big : too_big r now ≡ None = or_left (too_big r now) (unsupported r.grammar now) (or_right (malformed r.grammar now) (or_else (too_big r now) (unsupported r.grammar now)) scans) in
-    by r.side side big
+    let due = due_of r.grammar now in
+    let out = is_some now.out in
+    let answering = big_among r.grammar r.limits.unit_max out due now.left.answering in
+    let asking = big_among r.grammar r.limits.unit_max (not out) due (open_asking r.side now.left.asking now.out) in
+    let both = neither r.side answering asking big in
+    (all_small r.grammar r.limits.unit_max (not out) due (open_asking r.side now.left.asking now.out) both.1, all_small r.grammar r.limits.unit_max out due now.left.answering both.0)
   where
-    by : (s : Side) → s ≡ Incoming
-        → by_links s (big_among r.grammar r.limits.unit_max (is_some (option_map seen_request stage.out)) (due_of r.grammar (seen_stage stage [])) stage.left.answering.items)
-        (big_among r.grammar r.limits.unit_max (not (is_some (option_map seen_request stage.out))) (due_of r.grammar (seen_stage stage [])) (open_asking s stage.left.asking.items (option_map seen_request stage.out))) ≡ None
-        → All (Fits r.limits.unit_max) stage.left.asking.items × All (Fits r.limits.unit_max) stage.left.answering.items
-    by Incoming is q =
-        let due = due_of r.grammar (seen_stage stage []) in
-        let out = is_some (option_map seen_request stage.out) in
-        let answering = big_among r.grammar r.limits.unit_max out due stage.left.answering.items in
-        let asking = big_among r.grammar r.limits.unit_max (not out) due stage.left.asking.items in
-        (all_small r.grammar r.limits.unit_max (not out) due stage.left.asking.items (or_right answering asking q), all_small r.grammar r.limits.unit_max out due stage.left.answering.items (or_left answering asking q))
-    by Outgoing is q = cc
+    neither : (s : Side) (a b : Option Ending) → by_links s a b ≡ None → (a ≡ None) × (b ≡ None)
+    neither Incoming a b q = (or_left a b q, or_right a b q)
+    neither Outgoing a b q = (or_right b a q, or_left b a q)
 
 not_full : (n : ℕ) → full_log_at n ≡ None → n ≤ 1048576 → n < 1048576
 not_full n e le = go (n == 1048576) refl e
@@ -92,14 +92,18 @@ not_full n e le = go (n == 1048576) refl e
     go false is q = grind (arith, nat_tests)
 
 -- a session that goes on has room for one entry more
-pub has_more : (r : Rules) (setup : Setup) (stage : Stage) (entries : ℕ) (fault trouble end : Option Ending) → r.limits ≡ setup.limits → r.side ≡ Incoming
+pub has_more : (r : Rules) (setup : Setup) (stage : Stage) (entries : ℕ) (fault trouble end : Option Ending) → r.limits ≡ setup.limits → r.side ≡ setup.side
+    → ((ask : rule.Ask) → option_map seen_request stage.out ≡ Some ask → All (UnitFits (setup.limits.unit_max + 16384)) ask.units)
     → trouble ≡ trouble_of r (seen_stage stage []) → end ≡ or_else fault (or_else trouble (full_log_at entries)) → entries ≤ 1048576 → end ≡ None → HasMore setup stage entries
-has_more r setup stage entries fault trouble end limits side is ends le none =
+has_more r setup stage entries fault trouble end limits side units is ends le none =
     let rest : or_else trouble (full_log_at entries) ≡ None = or_right fault (or_else trouble (full_log_at entries)) (sym ends ∙ none) in
-    let all = fits r stage side (sym is ∙ or_left trouble (full_log_at entries) rest) in
+    let all = fits r stage (sym is ∙ or_left trouble (full_log_at entries) rest) in
+    let most : r.limits.unit_max ≡ setup.limits.unit_max = ap (λ (l : Limits). l.unit_max) limits in
     record {
-      asking = subst (λ (n : ℕ). All (Fits n) stage.left.asking.items) (ap (λ (l : Limits). l.unit_max) limits) all.0;
-      answering = subst (λ (n : ℕ). All (Fits n) stage.left.answering.items) (ap (λ (l : Limits). l.unit_max) limits) all.1;
+      asking = subst (λ (n : ℕ). All (Fits n) (open_asking setup.side stage.left.asking.items (option_map seen_request stage.out))) most
+          (subst (λ (s : Side). All (Fits r.limits.unit_max) (open_asking s stage.left.asking.items (option_map seen_request stage.out))) side all.0);
+      units = units;
+      answering = subst (λ (n : ℕ). All (Fits n) stage.left.answering.items) most all.1;
       room = not_full entries (or_right trouble (full_log_at entries) rest) le;
     }
 
@@ -119,6 +123,47 @@ sized_piece l Stop e = omega arith
 
 pub has_room : (most : ℕ) (w : What) (os : List rule.Open) → most ≤ 8388608 → is_oversized w ≡ false → All (Fits most) os → All (HasRoom w) os
 has_room most w os le sized fit = λ k d lt. let piece = sized_piece (slice_index_or os k d).link w sized in let here = fit k d lt in omega arith
+
+-- all that is open of those that ask, the request that is out among it
+asking_fits : (side : Side) (most : ℕ) (os : List rule.Open) (out : Option rule.Ask) → All (Fits most) (open_asking side os out)
+    → ((ask : rule.Ask) → out ≡ Some ask → All (UnitFits (most + 16384)) ask.units) → All (Fits (most + (most + 16384))) os
+asking_fits Incoming most os out all units = λ k d lt. let here = all k d lt in omega (arith, here)
+asking_fits Outgoing most os None all units = λ k d lt. let here = all k d lt in omega (arith, here)
+asking_fits Outgoing most os (Some ask) all units = short_with most (most + 16384) os ask.units all (units ask refl)
+
+room_of : (most : ℕ) (w : What) (os : List rule.Open) → most ≤ 8388608 → is_oversized w ≡ false → All (Fits (most + (most + 16384))) os → All (HasRoom w) os
+room_of most w os le sized fit = λ k d lt. let piece = sized_piece (slice_index_or os k d).link w sized in let here = fit k d lt in omega arith
+
+pub has_room_asking : (setup : Setup) (stage : Stage) (entries : ℕ) (w : What) → setup.limits.unit_max ≤ 8388608 → is_oversized w ≡ false → HasMore setup stage entries → All (HasRoom w) stage.left.asking.items
+has_room_asking setup stage entries w le sized more =
+    room_of setup.limits.unit_max w stage.left.asking.items le sized
+    (asking_fits setup.side setup.limits.unit_max stage.left.asking.items (option_map seen_request stage.out) more.asking more.units)
+
+-- the units of what is out a step later
+pub units_after : (g : Grammar) → Lawful g → (setup : Setup) (stage : Stage) (entries : ℕ) (w : What) (n : ℕ) (ask : rule.Ask) → is_oversized w ≡ false
+    → HasMore setup stage entries → IsOut g setup stage → (read g setup.limits.mask n (grow_front_by w (seen_front stage.left))).out ≡ Some ask
+    → All (UnitFits (setup.limits.unit_max + 16384)) ask.units
+units_after g laws setup stage entries w n ask sized more is_out e = by setup.side more.asking (option_map seen_request stage.out) refl
+  where
+    most : ℕ
+    most = setup.limits.unit_max
+
+    fresh : All (Fits most) stage.left.asking.items → All (UnitFits (most + 16384)) ask.units
+    fresh all = short_out g setup.limits.mask (most + 16384) n (grow_front_by w (seen_front stage.left)) ask
+        (short_grown most 16384 w stage.left.asking.items (λ l. sized_piece l w sized) all) e
+
+    by : (side : Side) → All (Fits most) (open_asking side stage.left.asking.items (option_map seen_request stage.out)) → (o : Option rule.Ask) → option_map seen_request stage.out ≡ o → All (UnitFits (most + 16384)) ask.units
+    by Incoming all o is = fresh all
+    by Outgoing all None is = fresh (subst (λ (p : Option rule.Ask). All (Fits most) (open_asking Outgoing stage.left.asking.items p)) is all)
+    by Outgoing all (Some before) is =
+        short_out_after g laws setup.limits.mask most 16384 w n (seen_front stage.left) before ask (λ l. sized_piece l w sized)
+        (is_out before is)
+        (subst (λ (p : Option rule.Ask). All (Fits most) (open_asking Outgoing stage.left.asking.items p)) is all)
+        (more.units before is) e
+
+-- what is out is asked first, where this is what was read
+pub is_out_after : (g : Grammar) (setup : Setup) (stage : Stage) (n : ℕ) (p : rule.Front) → seen_front stage.left ≡ (read g setup.limits.mask n p).left → option_map seen_request stage.out ≡ (read g setup.limits.mask n p).out → IsOut g setup stage
+is_out_after g setup stage n p left out ask is = ap (rule.ask_at g setup.limits.mask) left ∙ out_at g setup.limits.mask n p ask (sym out ∙ is)
 
 pub not_oversized : (n : ℕ) (h : History) (e : Entry) → is_well_formed n (h ++ e ∷ []) ≡ true → is_oversized e.what ≡ true → ⊥
 not_oversized n h e w over =

@@ -1,6 +1,6 @@
 -- One step of a session, over histories.
 use Rattle.std.proofs.Common.{◌≡◌, ℕ, zero, suc, ◌+◌, ◌-◌, Bool, true, false, List, [], ◌∷◌, ◌++◌, length, drop, map, max, min, Option, Some, None, refl, sym, ap, ap₂, ◌∙◌, length-append, cond, append-nil, Result, Ok, Err}
-use Rattle.std.specs.Prelude.{is_some, option_and_then, IfOk, OnOk, ◌||◌, ◌&&◌, nat_le, ◌^◌}
+use Rattle.std.specs.Prelude.{is_some, option_and_then, IfOk, OnOk, unwrap_or, ◌||◌, ◌&&◌, nat_le, ◌^◌}
 use Rattle.std.proofs.lemmas.List.{drop_at}
 use Rattle.rd_base.specs.declared.values.What.{What}
 use Rattle.rd_base.specs.declared.values.What.TheVariants.{Piece, End, ReadFail, WriteFail, Timer, Stop}
@@ -14,7 +14,7 @@ use Rattle.rd_base.specs.History.{History, Entry, is_well_formed, piece_of, ends
 use Rattle.rd_dialect.specs.Grammar.{Grammar}
 use Rattle.rd_dialect.specs.Laws.{Lawful}
 use Rattle.rd_rules.specs.Exchange.{Rules, Exchange, Front, Open, Reading, reading, read, note}
-use Rattle.rd_rules.specs.Given.{given, own_after}
+use Rattle.rd_rules.specs.Given.{given, own_after, masked_on}
 use Rattle.rd_rules.specs.Step.{grow, grow_by, grow_front, grow_front_by, with_done, given_now}
 use Rattle.rd_rules.specs.Wait.{Wait, wait, same_wait, began_by, due_moment, limit_of}
 use Rattle.rd_rules.specs.Trouble.{Now, now_of, ends_by, trouble_of, trouble, or_else, unsolicited, unsolicited_at, unsolicited_by, first_trouble, link_fault, stopped, late, is_timer_entry, full_log_at}
@@ -23,10 +23,11 @@ use Rattle.rd_rules.proofs.Steps.{reading-append}
 use Rattle.rd_rules.proofs.Acted.{not_both, no_stop, no_trouble, stop_next, last_of, front_of, acted_live, acted_by, acted_next, some_stop, front_follows}
 use Rattle.rd_rules.proofs.GivenSteps.{given_next, own_after-append}
 use Rattle.rd_rules.proofs.Moments.{began_next, moment_next}
+use Rattle.rd_core.proofs.Tallied.{tally_of, tally_on, tally_held, tally_over, tally_start}
 use Rattle.rd_core.proofs.Learning.{sends_to-more}
 use Rattle.rd_core.proofs.Faulty.{fault_next, no_fault, nothing_fails}
 use Rattle.rd_core.specs.Faults.{fault_by}
-use Rattle.rd_core.specs.Standing.{Standing, Seen, IsTimed, IsAt, next_reading, now_after, wait_at, began_at, standing_after, due_at, late_at, ending_at, Goes, Steps, SendsMore}
+use Rattle.rd_core.specs.Standing.{Standing, Seen, Tally, tally_after, Counts, IsTimed, IsAt, next_reading, now_after, wait_at, began_at, standing_after, due_at, late_at, ending_at, Goes, Steps, SendsMore}
 
 -- ---- the reading, one happening further
 
@@ -190,11 +191,18 @@ module _ {D : Type 0} (r : Rules) (laws : Lawful r.grammar) (old : Seen D) (h : 
       ∙ sym (trouble_on r h e (none live) u)
       ∙ sym (final_next r h e (none live))
 
-  goes_at : (new : Seen D) (sends : List Send) → old.ending ≡ None → unsolicited r (h ++ e ∷ []) ≡ None → Goes r old.at e new.at new.ending sends → IsAt r new (h ++ e ∷ [])
-  goes_at new sends live u goes =
+  counts_on : (new : Tally) → old.ending ≡ None → unsolicited r (h ++ e ∷ []) ≡ None → new ≡ tally_after r old.at.stage (next_reading r old.at.stage e) old.tally → new ≡ tally_of r (h ++ e ∷ [])
+  counts_on new live u is =
+      is
+      ∙ ap₂ (λ (s : Now) (t : Tally). tally_after r s (next_reading r s e) t) (live_stage live) at.tally
+      ∙ sym (tally_on r laws h e (next_reading r (now_of r (reading r h)) e) w (none live) (acted_next r h e (none live) u) (reading_next r laws h e w))
+
+  goes_at : (new : Seen D) (sends : List Send) → old.ending ≡ None → unsolicited r (h ++ e ∷ []) ≡ None → Goes r old.at e new.at new.ending sends → new.tally ≡ tally_after r old.at.stage (next_reading r old.at.stage e) old.tally → IsAt r new (h ++ e ∷ [])
+  goes_at new sends live u goes counts =
       let stands = standing_is new.at live goes.at in
       record {
         stage = stands.0 ∙ ap (λ g. now_of r (reading r g)) (sym (acted_next r h e (none live) u));
+        tally = counts_on new.tally live u counts;
         ending = goes.ending ∙ ending_is new.at live u goes.at;
         timed = λ still. stands.1;
       }
@@ -207,20 +215,21 @@ module _ {D : Type 0} (r : Rules) (laws : Lawful r.grammar) (old : Seen D) (h : 
       ∙ ap (λ (s : Now). given r l h ++ given_now r l s.own e.told (is_some s.out) (next_reading r s e)) (sym (live_stage live))
       ∙ ap (λ g. given r l g ++ given_now r l old.at.stage.own e.told (is_some old.at.stage.out) (next_reading r old.at.stage e)) (sym (acted_live r h (none live)))
 
-  held_at : (new : Seen D) (x : Ending) → old.ending ≡ None → unsolicited r (h ++ e ∷ []) ≡ Some x → new.at.stage ≡ old.at.stage → new.ending ≡ Some x → IsAt r new (h ++ e ∷ [])
-  held_at new x live u same end =
+  held_at : (new : Seen D) (x : Ending) → old.ending ≡ None → unsolicited r (h ++ e ∷ []) ≡ Some x → new.at.stage ≡ old.at.stage → new.ending ≡ Some x → new.tally ≡ record { masked = old.tally.masked; rows = [] } → IsAt r new (h ++ e ∷ [])
+  held_at new x live u same end counts =
       record {
         stage = same ∙ live_stage live ∙ ap (λ g. now_of r (reading r g)) (sym (acted_held r h e x (none live) u));
+        tally = counts ∙ ap (λ (t : Tally). record { masked = t.masked; rows = [] }) at.tally ∙ sym (tally_held r h e (none live) (acted_held r h e x (none live) u));
         ending = end ∙ sym (trouble_held r h e x (none live) u) ∙ sym (final_next r h e (none live));
         timed = λ still. absurd (cc (end, still));
       }
 
-  steps_at_by : (new : Seen D) (sends : List Send) (o : Option Ending) → old.ending ≡ None → unsolicited_by r.grammar old.at.stage e.what ≡ o → Steps r old.at e new.at new.ending sends → IsAt r new (h ++ e ∷ [])
-  steps_at_by new sends None live u steps = goes_at new sends live (unsolicited_is live ∙ u) (steps.on u)
-  steps_at_by new sends (Some x) live u steps = let held = steps.held x u in held_at new x live (unsolicited_is live ∙ u) held.0 held.1
+  steps_at_by : (new : Seen D) (sends : List Send) (o : Option Ending) → old.ending ≡ None → unsolicited_by r.grammar old.at.stage e.what ≡ o → Steps r old.at e new.at new.ending sends → Counts r old.at.stage e old.tally new.tally → IsAt r new (h ++ e ∷ [])
+  steps_at_by new sends None live u steps counts = goes_at new sends live (unsolicited_is live ∙ u) (steps.on u) (counts.on u)
+  steps_at_by new sends (Some x) live u steps counts = let held = steps.held x u in held_at new x live (unsolicited_is live ∙ u) held.0 held.1 (counts.held x u)
 
-  pub steps_at : (new : Seen D) (sends : List Send) → old.ending ≡ None → Steps r old.at e new.at new.ending sends → IsAt r new (h ++ e ∷ [])
-  steps_at new sends live steps = steps_at_by new sends (unsolicited_by r.grammar old.at.stage e.what) live refl steps
+  pub steps_at : (new : Seen D) (sends : List Send) → old.ending ≡ None → Steps r old.at e new.at new.ending sends → Counts r old.at.stage e old.tally new.tally → IsAt r new (h ++ e ∷ [])
+  steps_at new sends live steps counts = steps_at_by new sends (unsolicited_by r.grammar old.at.stage e.what) live refl steps counts
 
   -- what each link is sent by the step, and that these are the sends
   sends_more : (sends : List Send) (more : ℕ → List ℕ) → ((l : ℕ) → sent r l (h ++ e ∷ []) ≡ sent r l h ++ more l) → sends ≡ sends_to (r.limits.copies + 1) more → SendsMore r h e sends
@@ -255,6 +264,7 @@ module _ {D : Type 0} (r : Rules) (laws : Lawful r.grammar) (old : Seen D) (h : 
       let same = some_stop r h e (ap is_some (sym at.ending) ∙ over) in
       record {
         stage = at.stage ∙ ap (λ g. now_of r (reading r g)) (sym same.0);
+        tally = at.tally ∙ sym (tally_over r h e (ap is_some (sym at.ending) ∙ over) same.0);
         ending = at.ending ∙ sym same.1;
         timed = λ still. absurd (not_both old.ending over still);
       }
@@ -268,26 +278,32 @@ none_of (Some x) e = cc
 
 -- ---- the start
 
-pub start_at : {D : Type 0} (r : Rules) (s : Seen D) → s.at.stage ≡ now_of r (reading r []) → s.at.entries ≡ 0 → s.at.moment ≡ 0 → s.at.began ≡ 0 → s.ending ≡ trouble_of r s.at.stage → IsAt r s []
-start_at r s stage entries latest since end =
+pub start_at : {D : Type 0} (r : Rules) (s : Seen D) → s.at.stage ≡ now_of r (reading r []) → s.at.entries ≡ 0 → s.at.moment ≡ 0 → s.at.began ≡ 0 → s.tally.masked ≡ masked_on r.side r (reading r []) → s.tally.rows ≡ [] → s.ending ≡ trouble_of r s.at.stage → IsAt r s []
+start_at r s stage entries latest since sum rows end =
     let t = trouble r [] in
     let a : acted r [] ≡ [] = acted_by r [] (is_some t) refl in
     record {
       stage = stage ∙ ap (λ g. now_of r (reading r g)) (sym a);
+      tally = ap (λ rs. record { masked = s.tally.masked; rows = rs }) rows ∙ tally_start r s.tally.masked sum a (none_taken (is_some t));
       ending = end ∙ ap (trouble_of r) stage ∙ sym (right_none (trouble_of r (now_of r (reading r []))))
           ∙ sym (ap (λ f. or_else f (or_else (trouble_of r (now_of r (reading r []))) None)) (nothing_fails r)) ∙ sym (final_by (trouble r) [] t refl);
       timed = λ live. record { count = entries; latest = latest; since = since };
     }
   where
+    none_taken : (b : Bool) → unwrap_or (cond b (Some []) None) [] ≡ []
+    none_taken true = refl
+    none_taken false = refl
+
     right_none : (o : Option Ending) → or_else o None ≡ o
     right_none None = refl
     right_none (Some x) = refl
 
 pub result_at : {D : Type 0} (r : Rules) → Lawful r.grammar → (old new : Seen D) (e : Entry) (res : Result (List Send) NoMemory) → old.ending ≡ None
     → IfOk res (λ sends. Steps r old.at e new.at new.ending sends)
+    → OnOk res (Counts r old.at.stage e old.tally new.tally)
     → OnOk res ((h : History) → is_well_formed r.limits.copies (h ++ e ∷ []) ≡ true → IsAt r old h → IsAt r new (h ++ e ∷ []))
-result_at r laws old new e (Ok sends) live steps = λ h w at. steps_at r laws old h at e w new sends live steps
-result_at r laws old new e (Err fail) live steps = tt
+result_at r laws old new e (Ok sends) live steps counts = λ h w at. steps_at r laws old h at e w new sends live steps counts
+result_at r laws old new e (Err fail) live steps counts = tt
 
 pub result_sent : {D : Type 0} (r : Rules) → Lawful r.grammar → (old new : Seen D) (e : Entry) (res : Result (List Send) NoMemory) → old.ending ≡ None
     → IfOk res (λ sends. Steps r old.at e new.at new.ending sends)

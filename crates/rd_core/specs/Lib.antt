@@ -3,4 +3,5 @@ pub mod Faults
 pub mod Sending
 pub mod Standing
 pub mod Kept
+pub mod Masks
 pub mod Clocks

@@ -1,7 +1,7 @@
 -- What a session keeps, and one step of it.
 use Rattle.std.specs.Prelude.{◌≡◌, ℕ, ◌+◌, ◌-◌, ◌^◌, ◌&&◌, Bool, List, [], ◌∷◌, ◌++◌, length, min, max, nat_le, Option, Some, None, is_some, if◌then◌else◌}
+use Rattle.std.specs.List.{flat_map}
 use Rattle.rd_base.specs.declared.values.Side.{Side}
-use Rattle.rd_base.specs.declared.values.Side.TheVariants.{Incoming}
 use Rattle.rd_base.specs.declared.values.Ending.{Ending}
 use Rattle.rd_base.specs.declared.values.Ending.TheVariants.{Late}
 use Rattle.rd_base.specs.declared.values.Limits.{Limits}
@@ -10,11 +10,11 @@ use Rattle.rd_base.specs.History.{History, Entry, Row, is_timer, moment}
 use Rattle.rd_base.specs.Sent.{sends_to}
 use Rattle.rd_rules.specs.Exchange as rule
 use Rattle.rd_rules.specs.Exchange.{Rules, reading, read}
-use Rattle.rd_rules.specs.Given.{own_after}
-use Rattle.rd_rules.specs.Step.{grow_front_by, given_now}
+use Rattle.rd_rules.specs.Given.{own_after, exchange_rows}
+use Rattle.rd_rules.specs.Step.{grow_front_by, given_now, masked_now}
 use Rattle.rd_rules.specs.Wait.{Wait, wait, which_on, same_wait, some_open, limit_of, began_by}
 use Rattle.rd_rules.specs.Trouble.{Now, now_of, ends_by, trouble_of, unsolicited_by, or_else, full_log_at}
-use Rattle.rd_rules.specs.Sent.{acted, final, sent, sent_past, step_sends}
+use Rattle.rd_rules.specs.Sent.{acted, final, sent, sent_past, step_sends, masked, agreed_rows}
 use Rattle.rd_reading.specs.declared.setup.Setup.{Setup}
 use Rattle.rd_core.specs.Faults.{fault_by}
 
@@ -25,11 +25,17 @@ pub record Standing : Type 0 where
   pub moment : ℕ
   pub began : ℕ
 
+-- how many places were masked in all that is agreed, and the rows that the last entry learnt
+pub record Tally : Type 0 where
+  pub masked : ℕ
+  pub rows : List Row
+
 -- what contracts see of a session
 pub record Seen (D : Type 0) : Type 0 where
   pub dialect : D
   pub setup : Setup
   pub at : Standing
+  pub tally : Tally
   pub ending : Option Ending
 
 -- the clock of a live session is that of its history
@@ -41,6 +47,7 @@ pub record IsTimed (r : Rules) (s : Standing) (h : History) : Type 0 where
 -- a session stands where this history leads
 pub record IsAt {D : Type 0} (r : Rules) (s : Seen D) (h : History) : Type 0 where
   pub stage : s.at.stage ≡ now_of r (reading r (acted r h))
+  pub tally : s.tally ≡ record { masked = masked r h; rows = agreed_rows r h }
   pub ending : s.ending ≡ final r h
   pub timed : s.ending ≡ None → IsTimed r s.at h
 
@@ -102,11 +109,23 @@ pub record Steps (r : Rules) (old : Standing) (e : Entry) (new : Standing) (end 
   pub on : unsolicited_by r.grammar old.stage e.what ≡ None → Goes r old e new end sends
   pub held : (x : Ending) → unsolicited_by r.grammar old.stage e.what ≡ Some x → (new.stage ≡ old.stage) × (end ≡ Some x) × (sends ≡ [])
 
+-- what is masked and learnt after further exchanges
+abbrev pub tally_after : Rules → Now → rule.Reading → Tally → Tally
+tally_after r before next tally = record {
+  masked = tally.masked + masked_now r.side r (is_some before.out) next;
+  rows = flat_map (exchange_rows r) next.done;
+}
+
+-- the same of one step of a session that hasn't ended
+pub record Counts (r : Rules) (old : Now) (e : Entry) (before after : Tally) : Type 0 where
+  pub on : unsolicited_by r.grammar old e.what ≡ None → after ≡ tally_after r old (next_reading r old e) before
+  pub held : (x : Ending) → unsolicited_by r.grammar old e.what ≡ Some x → after ≡ record { masked = before.masked; rows = [] }
+
 -- what a step sends: what each link has been sent with the entry past what it had been sent, in the order of links
 pub record SendsMore (r : Rules) (h : History) (e : Entry) (sends : List Send) : Type 0 where
   pub adds : (l : ℕ) → sent r l (h ++ e ∷ []) ≡ sent r l h ++ sent_past r h (h ++ e ∷ []) l
   pub are : sends ≡ step_sends r h (h ++ e ∷ [])
 
--- a session of a client before the instances
-abbrev pub IsIncoming : {D : Type 0} → Seen D → Type 0
-IsIncoming s = s.setup.side ≡ Incoming
+-- a session of this side
+abbrev pub IsOn : {D : Type 0} → Side → Seen D → Type 0
+IsOn side s = s.setup.side ≡ side

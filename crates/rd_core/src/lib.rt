@@ -3,6 +3,7 @@
 
 mod clock;
 mod faults;
+mod masks;
 mod plan;
 mod sending;
 mod session;
@@ -10,5 +11,5 @@ mod stage;
 mod trouble;
 mod waits;
 
-pub use session::Session;
 pub use rd_reading::Setup;
+pub use session::Session;

@@ -1,17 +1,17 @@
 ghost use Rattle.std.specs.Prelude.{◌≡◌, ◌≤◌, ◌<◌, ◌+◌, ◌-◌, ◌++◌, [], ◌∷◌, List, ℕ, None, map, length, take, All, IfOk, OnOk};
 ghost use Rattle.std.specs.List.{flat_map};
-ghost use Rattle.rd_base.specs.declared.values.Side.TheVariants.{Incoming};
 ghost use Rattle.rd_base.specs.Limits.{AreLimits};
 ghost use Rattle.rd_base.specs.Sent.{sends_to};
 ghost use Rattle.rd_rules.specs.Exchange as rule;
-ghost use Rattle.rd_rules.specs.Given.{learnt, own_after};
-ghost use Rattle.rd_rules.specs.Step.{given_now};
+ghost use Rattle.rd_rules.specs.Given.{learnt, own_after, exchange_rows};
+ghost use Rattle.rd_rules.specs.Step.{given_now, masked_now};
 ghost use Rattle.rd_rules.specs.Trouble.{trouble_of, ends_by};
 ghost use Rattle.rd_reading.specs.Whole.{IsDone};
 ghost use Rattle.rd_reading.specs.Seen.{seen_exchange, seen_front, seen_reading, rules_of, rows_are};
 ghost use Rattle.rd_core.specs.Stages.{seen_stage, HasAsked};
 ghost use Rattle.rd_core.specs.Standing.{now_from};
 
+use crate::masks::masked_in;
 use crate::sending::sends_of;
 use crate::stage::Stage;
 use crate::trouble::trouble_of;
@@ -27,6 +27,7 @@ pub(crate) struct Plan {
     pub(crate) rows: Rows,
     pub(crate) trouble: Option<Ending>,
     pub(crate) sends: Sends,
+    pub(crate) masked: u64,
 }
 
 /// What is known before a step: the exchanges that are done, whether the last is a farewell, whether a
@@ -111,6 +112,11 @@ pub(crate) fn plan_of<D: Dialect>(
     ensures trouble { IfOk result (λ p. p.trouble ≡ trouble_of (rules_of (D.grammar dialect.now) setup.now) (seen_stage p.stage [])) }
     ensures sends { IfOk result (λ p. p.sends ≡ sends_to (setup.now.limits.copies + 1) (λ link. given_now (rules_of (D.grammar dialect.now) setup.now) link own.now told.now before.was_out
         (rule.read (D.grammar dialect.now) setup.now.limits.mask (setup.now.limits.exchanges_max - before.count) (seen_front front)))) }
+    ensures rows { IfOk result (λ p. p.rows ≡ flat_map (exchange_rows (rules_of (D.grammar dialect.now) setup.now))
+        (rule.read (D.grammar dialect.now) setup.now.limits.mask (setup.now.limits.exchanges_max - before.count) (seen_front front)).done) }
+    ensures masked { IfOk result (λ p. p.masked ≡ masked_now setup.now.side (rules_of (D.grammar dialect.now) setup.now) before.was_out
+        (rule.read (D.grammar dialect.now) setup.now.limits.mask (setup.now.limits.exchanges_max - before.count) (seen_front front))) }
+    ensures few_masked { IfOk result (λ p. p.masked ≤ 16777216) }
     ensures count { IfOk result (λ p. p.stage.count ≤ setup.now.limits.exchanges_max) }
     ensures asked { IfOk result (λ p. HasAsked (D.grammar dialect.now) p.stage.out) }
 {
@@ -118,6 +124,7 @@ pub(crate) fn plan_of<D: Dialect>(
     let reading = read_on(alloc, dialect, setup, spare, front)?;
     let sends = sends_of(alloc, dialect, setup, own, told, before.was_out, &reading)?;
     let rows = rows_in(alloc, reading.done.as_slice())?;
+    let masked = masked_in(setup.side, before.was_out, &reading);
     let stage = stage_of(dialect, setup, before.bye, reading);
     let trouble = trouble_of(alloc, dialect, setup, &stage)?;
     Ok(Plan {
@@ -125,5 +132,6 @@ pub(crate) fn plan_of<D: Dialect>(
         rows,
         trouble,
         sends,
+        masked,
     })
 }

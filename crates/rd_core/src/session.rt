@@ -1,16 +1,16 @@
 ghost use Rattle.std.specs.Prelude.{◌≡◌, ◌≤◌, ◌<◌, ◌+◌, ◌++◌, [], ◌∷◌, List, ℕ, None, Some, true, OnOk, OnErr, IfOk, IfSome, false, is_some, is_none};
-ghost use Rattle.rd_base.specs.declared.values.Side.TheVariants.{Incoming};
 ghost use Rattle.rd_base.specs.Limits.{AreLimits};
 ghost use Rattle.rd_base.specs.History.{Entry, is_well_formed, is_timer};
 ghost use Rattle.rd_rules.specs.Exchange.{Rules};
 ghost use Rattle.rd_rules.specs.Given.{learnt};
-ghost use Rattle.rd_rules.specs.Sent.{final, exchanges};
+ghost use Rattle.rd_rules.specs.Sent.{final, exchanges, masked, agreed_rows};
 ghost use Rattle.rd_rules.specs.Wait.{wait, due_moment};
 ghost use Rattle.rd_rules.specs.Trouble.{or_else, full_log_at};
 ghost use Rattle.rd_core.specs.Faults.{fault_by};
 ghost use Rattle.rd_reading.specs.Seen.{rules_of};
 ghost use Rattle.rd_core.specs.Clocks.{standing, entry_of};
-ghost use Rattle.rd_core.specs.Standing.{Seen, IsAt, Goes, Steps, SendsMore, late_at};
+ghost use Rattle.rd_core.specs.Stages.{seen_stage};
+ghost use Rattle.rd_core.specs.Standing.{Seen, IsAt, Goes, Steps, Counts, SendsMore, late_at, next_reading, tally_after};
 ghost use Rattle.rd_core.specs.Kept.{IsKept, HasMore, is_oversized};
 
 use crate::clock::Clock;
@@ -19,7 +19,7 @@ use crate::plan::{Before, Plan, plan_of};
 use crate::stage::Stage;
 use crate::trouble::or_else;
 use crate::waits::{clock_after, due_at, full_log, late, which_at};
-use rd_base::{Ending, Happening, NoMemory, Rows, Sends, What, Which};
+use rd_base::{Ending, Happening, NoMemory, Rows, Sends, Side, What, Which};
 use rd_dialect::Dialect;
 use rd_reading::{Setup, grow_front, start_front};
 use rd_token_map::OwnRows;
@@ -35,6 +35,8 @@ pub struct Session<D: Dialect> {
     stage: Stage,
     own: OwnRows,
     clock: Clock,
+    masked: u64,
+    rows: Rows,
     ending: Option<Ending>,
 }
 
@@ -45,16 +47,15 @@ impl<D: Dialect> Model for Session<D> {
 
     ghost Value = { Seen D };
 
-    ghost view = { λ a. record { dialect = a.dialect; setup = a.setup; at = standing a.stage a.own a.clock; ending = a.ending } };
+    ghost view = { λ a. record { dialect = a.dialect; setup = a.setup; at = standing a.stage a.own a.clock; tally = record { masked = a.masked; rows = a.rows }; ending = a.ending } };
 
-    ghost invariant = { λ a. IsKept (D.grammar a.dialect) a.setup a.stage a.clock.entries a.ending };
+    ghost invariant = { λ a. IsKept (D.grammar a.dialect) a.setup a.stage a.clock.entries a.masked a.ending };
 }
 
 impl<D: Dialect> Session<D> {
     /// A session of which nothing was heard yet.
     pub fn new(alloc: Global, dialect: D, setup: Setup) -> Result<Session<D>, NoMemory>
         requires limits { AreLimits setup.limits }
-        requires incoming { setup.side ≡ Incoming }
         ensures dialect { IfOk result (λ s. s.dialect ≡ dialect) }
         ensures setup { IfOk result (λ s. s.setup ≡ setup) }
         ensures at { IfOk result (λ s. IsAt (rules_of (D.grammar dialect) setup) s []) }
@@ -73,6 +74,7 @@ impl<D: Dialect> Session<D> {
             rows,
             trouble,
             sends: _,
+            masked,
         } = plan;
         learn_all(&mut own, &rows);
         Ok(Session {
@@ -86,6 +88,8 @@ impl<D: Dialect> Session<D> {
                 moment: 0,
                 began: 0,
             },
+            masked,
+            rows: Rows::new(alloc),
             ending: trouble,
         })
     }
@@ -98,11 +102,28 @@ impl<D: Dialect> Session<D> {
         self.ending
     }
 
-    /// How many exchanges are agreed.
+    /// How many exchanges are agreed: incoming their replies are, outgoing their calls.
     pub fn exchanges(&self) -> u32
         ensures { (h : List Entry) → IsAt (rules_of (D.grammar self.now.dialect) self.now.setup) self.now h → result ≡ exchanges (rules_of (D.grammar self.now.dialect) self.now.setup) h }
     {
-        self.stage.count
+        match self.setup.side {
+            Side::Incoming => self.stage.count,
+            Side::Outgoing => self.stage.count + u32::from(self.stage.out.is_some()),
+        }
+    }
+
+    /// How many places are masked in agreed exchanges.
+    pub fn masked(&self) -> u32
+        ensures { (h : List Entry) → IsAt (rules_of (D.grammar self.now.dialect) self.now.setup) self.now h → result ≡ masked (rules_of (D.grammar self.now.dialect) self.now.setup) h }
+    {
+        self.masked.min(u64::from(u32::MAX)) as u32
+    }
+
+    /// The rows that the last step learnt; after an ending, those of the step that ended the session.
+    pub fn agreed_rows(&self) -> &Rows
+        ensures { (h : List Entry) → IsAt (rules_of (D.grammar self.now.dialect) self.now.setup) self.now h → result.now ≡ agreed_rows (rules_of (D.grammar self.now.dialect) self.now.setup) h }
+    {
+        &self.rows
     }
 
     /// The moment in milliseconds at which the session's wait ends, and what it waits for. None after an
@@ -148,10 +169,12 @@ impl<D: Dialect> Session<D> {
         ensures dialect { self.new.dialect ≡ self.old.dialect }
         ensures setup { self.new.setup ≡ self.old.setup }
         ensures steps { IfOk result (λ sends. Steps (rules_of (D.grammar self.old.dialect) self.old.setup) self.old.at (entry_of happening.now told.now) self.new.at self.new.ending sends) }
+        ensures counts { OnOk result (Counts (rules_of (D.grammar self.old.dialect) self.old.setup) self.old.at.stage (entry_of happening.now told.now) self.old.tally self.new.tally) }
         ensures err { OnErr result (self.new ≡ self.old) }
     {
         match unsolicited(self.alloc, &self.dialect, &self.stage, &happening.what)? {
             Some(ending) => {
+                self.rows = Rows::new(self.alloc);
                 self.ending = Some(ending);
                 Ok(Sends::new(self.alloc))
             }
@@ -165,6 +188,7 @@ impl<D: Dialect> Session<D> {
         ensures dialect { self.new.dialect ≡ self.old.dialect }
         ensures setup { self.new.setup ≡ self.old.setup }
         ensures goes { IfOk result (λ sends. Goes (rules_of (D.grammar self.old.dialect) self.old.setup) self.old.at (entry_of happening.now told.now) self.new.at self.new.ending sends) }
+        ensures counts { OnOk result (self.new.tally ≡ tally_after (rules_of (D.grammar self.old.dialect) self.old.setup) self.old.at.stage (next_reading (rules_of (D.grammar self.old.dialect) self.old.setup) self.old.at.stage (entry_of happening.now told.now)) self.old.tally) }
         ensures err { OnErr result (self.new ≡ self.old) }
     {
         let Move {
@@ -173,6 +197,7 @@ impl<D: Dialect> Session<D> {
             clock,
             ending,
             sends,
+            masked,
         } = move_of(
             self.alloc,
             &self.dialect,
@@ -180,12 +205,15 @@ impl<D: Dialect> Session<D> {
             &self.stage,
             self.own.rows(),
             self.clock,
+            self.masked,
             happening,
             told,
         )?;
         learn_all(&mut self.own, &rows);
         self.stage = stage;
         self.clock = clock;
+        self.masked = masked;
+        self.rows = rows;
         self.ending = ending;
         Ok(sends)
     }
@@ -199,6 +227,7 @@ struct Move {
     clock: Clock,
     ending: Option<Ending>,
     sends: Sends,
+    masked: u64,
 }
 
 /// What a happening that withholds nothing does to a live session.
@@ -209,13 +238,16 @@ fn move_of<D: Dialect>(
     stage: &Stage,
     own: &Rows,
     clock: Clock,
+    masked: u64,
     happening: &Happening,
     told: &Rows,
 ) -> Result<Move, NoMemory>
-    requires kept { IsKept (D.grammar dialect.now) setup.now stage.now clock.entries None }
+    requires kept { IsKept (D.grammar dialect.now) setup.now stage.now clock.entries masked None }
     requires sized { is_oversized happening.now.what ≡ false }
     ensures goes { IfOk result (λ m. Goes (rules_of (D.grammar dialect.now) setup.now) (standing stage.now own.now clock) (entry_of happening.now told.now) (standing m.stage (learnt own.now m.rows) m.clock) m.ending m.sends) }
-    ensures kept { IfOk result (λ m. IsKept (D.grammar dialect.now) setup.now m.stage m.clock.entries m.ending) }
+    ensures counts { IfOk result (λ m. record { masked = m.masked; rows = m.rows } ≡ tally_after (rules_of (D.grammar dialect.now) setup.now) (seen_stage stage.now own.now)
+        (next_reading (rules_of (D.grammar dialect.now) setup.now) (seen_stage stage.now own.now) (entry_of happening.now told.now)) (record { masked = masked; rows = [] })) }
+    ensures kept { IfOk result (λ m. IsKept (D.grammar dialect.now) setup.now m.stage m.clock.entries m.masked m.ending) }
 {
     let what = &happening.what;
     let front = grow_front(alloc, &stage.left, what)?;
@@ -229,6 +261,7 @@ fn move_of<D: Dialect>(
         rows,
         trouble,
         sends,
+        masked: fresh,
     } = plan_of(alloc, dialect, setup, before, own, told, front)?;
     let clock = clock_after(setup.side, stage, clock, &later, happening.at);
     let ending = ending_of(setup, what, &later, clock, trouble);
@@ -238,6 +271,7 @@ fn move_of<D: Dialect>(
         clock,
         ending,
         sends,
+        masked: masked + fresh,
     })
 }
 

@@ -28,7 +28,7 @@ pub returns-clause-at : goal.returns-clause-at
 returns-clause-at g c =
     let old = c.args.self.now in
     let live : is_some old.ending ≡ false = sym (ap (λ v. is_some v.ending) c.self.view_is) ∙ sym c.is_some.ensures ∙ c.if-is_some.false in
-    result_at (rules_of (g.D.Dialect.grammar old.dialect) old.setup) (g.met.D.Dialect.lawful old.dialect) old c.go.new.self (entry_of c.args.happening.now c.args.told.now) c.go.result (none_of old.ending live) c.go.ensures.steps
+    result_at (rules_of (g.D.Dialect.grammar old.dialect) old.setup) (g.met.D.Dialect.lawful old.dialect) old c.go.new.self (entry_of c.args.happening.now c.args.told.now) c.go.result (none_of old.ending live) c.go.ensures.steps c.go.ensures.counts
 
 pub returns-clause-sent : goal.returns-clause-sent
 returns-clause-sent g c =
