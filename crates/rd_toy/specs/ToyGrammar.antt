@@ -12,7 +12,7 @@ abbrev pub scan_nothing : List ℕ → Scan
 scan_nothing [] = More
 scan_nothing (b ∷ bytes) = Bad
 
--- a line may not begin with this byte: `!` has a code, `#` is too much
+-- no line begins with this byte: `!` isn't supported, by this code, and `#` is past a limit
 abbrev pub refused : ℕ → ℕ → Scan
 refused code b = if b == 33 then Unsupported code else if b == 35 then TooBig else Bad
 

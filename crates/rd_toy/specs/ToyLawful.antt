@@ -1,5 +1,5 @@
 -- Toy obeys the laws of a grammar.
-use Rattle.std.proofs.Common.{◌≡◌, ◌≢◌, ℕ, ◌+◌, ◌<◌, ◌≤◌, Bool, true, false, cond, List, [], ◌∷◌, ◌++◌, length, take, length-take, refl, sym, ap, ◌∙◌, arith}
+use Rattle.std.proofs.Common.{◌≡◌, ◌≢◌, ℕ, ◌<◌, ◌≤◌, Bool, true, false, cond, List, [], ◌∷◌, ◌++◌, length, take, length-take, refl, sym, ap, ◌∙◌, arith}
 use Rattle.std.specs.Prelude.{◌==◌, ◌&&◌, slice_index, codes}
 use Rattle.rd_base.specs.WordCut.{words_of}
 use Rattle.rd_base.specs.declared.values.Scan.{Scan}
@@ -10,7 +10,6 @@ use Rattle.rd_base.specs.declared.values.Phase.{Phase}
 use Rattle.rd_base.specs.declared.values.Note.{Note}
 use Rattle.rd_dialect.specs.Grammar.{scan_of, tokens_of}
 use Rattle.rd_dialect.specs.Laws.{Lawful, IsFront}
-use Rattle.rd_dialect.specs.LineGrammar.{scan_line}
 use Rattle.rd_dialect.specs.Scanned.{scan_bounds}
 use Rattle.rd_dialect.specs.Joined.{line_online, words_count}
 use Rattle.rd_toy.specs.ToyGrammar.{toy, scan_nothing, scan_kinds, scan_request, scan_answer, scan_until_end, answer_kinds, scan_reply, shown_from, phase_after}

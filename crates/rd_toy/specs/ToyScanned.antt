@@ -1,5 +1,5 @@
 -- Where the units of Toy end.
-use Rattle.std.proofs.Common.{◌≡◌, ◌≢◌, ℕ, zero, suc, ◌+◌, ◌<◌, ◌≤◌, Bool, true, false, cond, List, [], ◌∷◌, ◌++◌, length, take, drop, subst, refl, sym, ap, ◌∙◌, arith, length-append, length-take, length-drop}
+use Rattle.std.proofs.Common.{◌≡◌, ◌≢◌, ℕ, zero, suc, ◌+◌, ◌<◌, ◌≤◌, Bool, true, false, cond, List, [], ◌∷◌, ◌++◌, length, take, drop, refl, sym, ap, ◌∙◌, arith, length-drop}
 use Rattle.std.proofs.lemmas.List.{drop-append-le, drop-take}
 use Rattle.std.specs.Prelude.{◌==◌, ◌||◌, not}
 use Rattle.std.specs.List.{list_any}
@@ -7,7 +7,7 @@ use Rattle.rd_base.specs.declared.values.Scan.{Scan}
 use Rattle.rd_base.specs.declared.values.Scan.TheVariants.{Whole, More, Bad, TooBig, Unsupported}
 use Rattle.rd_dialect.specs.LineGrammar.{scan_line}
 use Rattle.rd_dialect.specs.Scanned.{scan_bounds, scan_stays, scan_itself, scan_never_bad}
-use Rattle.rd_toy.specs.ToyGrammar.{scan_nothing, refused, scan_kinds, early_len, behind, scan_answer, scan_until_end}
+use Rattle.rd_toy.specs.ToyGrammar.{refused, scan_kinds, early_len, behind, scan_answer}
 
 refused_whole : (code b len : ℕ) → refused code b ≢ Whole len
 refused_whole code b len e = by (b == 33) (b == 35) e

@@ -6,3 +6,6 @@ mod scan;
 mod toy;
 
 pub use toy::Toy;
+
+#[cfg(test)]
+mod tests;

@@ -2,11 +2,12 @@ ghost use Rattle.std.specs.Prelude.{◌≡◌, ◌≤◌, length, drop, false};
 ghost use Rattle.rd_dialect.specs.Grammar.{whole_len};
 ghost use Rattle.rd_toy.specs.ToyGrammar.{scan_nothing, refused, scan_kinds, scan_answer, scan_until_end, early_len};
 
-use rd_dialect::{Dialect, Line, Phase, Scan};
+use rd_base::{Phase, Scan};
+use rd_dialect::{Dialect, Line};
 
 /// A line that begins with one of these kinds. Another one is refused at its first byte: `!` by the code, `#` as too
 /// big.
-pub fn scan_kinds(kinds: &[u8], code: u32, bytes: &[u8]) -> Scan
+pub(crate) fn scan_kinds(kinds: &[u8], code: u32, bytes: &[u8]) -> Scan
     ensures scan { result ≡ scan_kinds kinds.now code bytes.now }
     ensures within { whole_len result ≤ length bytes.now }
 {
@@ -28,7 +29,7 @@ fn refused(code: u32, kind: u8) -> Scan
 }
 
 /// Any number of early lines, and then a line of one of these kinds.
-pub fn scan_answer(kinds: &[u8], bytes: &[u8]) -> Scan
+pub(crate) fn scan_answer(kinds: &[u8], bytes: &[u8]) -> Scan
     ensures scan { result ≡ scan_answer kinds.now bytes.now }
     ensures within { whole_len result ≤ length bytes.now }
 {
@@ -40,7 +41,7 @@ pub fn scan_answer(kinds: &[u8], bytes: &[u8]) -> Scan
 }
 
 /// The number of bytes in front that are in early lines, which begin with `+`.
-pub fn early_len(bytes: &[u8]) -> usize
+pub(crate) fn early_len(bytes: &[u8]) -> usize
     ensures len { result ≡ early_len false bytes.now }
     ensures within { result ≤ length bytes.now }
 {
@@ -55,7 +56,7 @@ pub fn early_len(bytes: &[u8]) -> usize
 }
 
 /// All bytes until their link ends, and at least one.
-pub fn scan_until_end(bytes: &[u8], ended: bool) -> Scan
+pub(crate) fn scan_until_end(bytes: &[u8], ended: bool) -> Scan
     ensures scan { result ≡ scan_until_end bytes.now ended }
     ensures within { whole_len result ≤ length bytes.now }
 {
@@ -67,7 +68,7 @@ pub fn scan_until_end(bytes: &[u8], ended: bool) -> Scan
 }
 
 /// Where nothing may come.
-pub fn scan_nothing(bytes: &[u8]) -> Scan
+pub(crate) fn scan_nothing(bytes: &[u8]) -> Scan
     ensures { result ≡ scan_nothing bytes.now }
 {
     if bytes.is_empty() {

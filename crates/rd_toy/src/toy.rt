@@ -3,15 +3,21 @@ ghost use Rattle.rd_toy.specs.ToyLawful.{toy_lawful};
 ghost use Rattle.std.specs.Prelude.{◌≡◌, ◌≤◌, length, ◌&&◌, ◌==◌, not};
 
 use crate::scan::{early_len, scan_answer, scan_kinds, scan_nothing, scan_until_end};
-use rd_dialect::{
-    Bytes, Cursor, Dialect, Line, NoMemory, Note, Part, Phase, Rows, Scan, TokenSpan, Words,
+use rd_base::{
+    Bytes, Cursor, NoMemory, Note, Part, Phase, Rows, Scan, TokenSpan, WordCut, Words, cut_at,
 };
-use rd_base::{WordCut, cut_at};
+use rd_dialect::{Dialect, Line};
 use rd_token_map::swap_words;
 use std::alloc::Global;
 
-/// Lines that begin with their kind, in two phases. Phase 0 takes a log-in, phase 1 queries, reads and a farewell,
-/// phase 2 nothing.
+/// Lines whose first byte is their kind. Phase 0 takes a log-in `u`, phase 1 a query `q`, a read `r` and a farewell
+/// `x`, phase 2 nothing.
+///
+/// A log-in is answered by `y`, with which phase 1 begins, or by `n`, and a query by `=`. Early lines `+` may come
+/// before an answer and aren't shown. The reply to a read is all that comes until its link ends, at least one byte,
+/// and a farewell has none.
+///
+/// The kind `!` isn't supported, by code 7 in a request and 9 in an answer, and `#` is too big.
 #[derive(Clone, Copy, Debug)]
 pub struct Toy;
 
