@@ -1,0 +1,3 @@
+pub mod ToyGrammar
+pub mod ToyScanned
+pub mod ToyLawful
