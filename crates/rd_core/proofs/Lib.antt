@@ -1,5 +1,6 @@
 pub mod Faulty
 pub mod Learning
+pub mod Counted
 pub mod Tallied
 pub mod Taken
 pub mod Planned

@@ -1,5 +1,5 @@
 -- What a step works out, from what its parts answer.
-use Rattle.std.proofs.Common.{◌≡◌, ℕ, ◌+◌, ◌<◌, ◌≤◌, Bool, true, false, cond, not, List, [], ◌∷◌, ◌++◌, length, max, Option, Some, None, refl, sym, ap, ap₂, subst, ◌∙◌, arith}
+use Rattle.std.proofs.Common.{◌≡◌, ℕ, ◌+◌, ◌<◌, ◌≤◌, Bool, true, false, cond, not, List, [], ◌∷◌, ◌++◌, length, map, max, Option, Some, None, refl, sym, ap, ap₂, subst, ◌∙◌, arith}
 use Rattle.std.specs.Prelude.{is_some, option_map, slice_index_or, find, nat_lt, nat_le, ◌||◌, ◌&&◌, ◌==◌}
 use Rattle.std.specs.List.{All}
 use Rattle.std.proofs.lemmas.Bool.{and_parts}
@@ -17,9 +17,9 @@ use Rattle.rd_dialect.specs.Grammar.{Grammar}
 use Rattle.rd_dialect.specs.declared.due.Due.{Due}
 use Rattle.rd_rules.specs.Exchange as rule
 use Rattle.rd_rules.specs.Exchange.{Rules, reading, read, scan_open}
-use Rattle.rd_rules.specs.Given.{learnt}
+use Rattle.rd_rules.specs.Given.{learnt, masked_on}
 use Rattle.rd_rules.specs.Trouble.{Now, now_of, trouble_of, or_else, full_log_at, malformed, too_big, unsupported, disagreed, end_trouble, scan_trouble, big_among, is_big, open_asking, is_too_big, link_of, due_of, by_links}
-use Rattle.rd_rules.specs.Step.{grow_front_by}
+use Rattle.rd_rules.specs.Step.{grow_front_by, masked_now}
 use Rattle.rd_rules.proofs.Outs.{IsShort, short_grown, short_out, short_out_after, short_with, out_at}
 use Rattle.rd_dialect.specs.Laws.{Lawful}
 use Rattle.rd_rules.proofs.Streams.{follows_well-append}
@@ -200,3 +200,15 @@ first_stage r now = let none : 0 + length now.done ≡ length now.done = omega a
 pub or_none : (o : Option Ending) → or_else o None ≡ o
 or_none None = refl
 or_none (Some x) = refl
+
+-- where nothing was heard, nothing is open
+no_bytes : (most : ℕ) (ls : List ℕ) → All (Fits most) (map (rule.open_of []) ls)
+no_bytes most [] = All-nil (Fits most)
+no_bytes most (l ∷ ls) = All-cons (Fits most) (rule.open_of [] l) (map (rule.open_of []) ls) (omega arith) (no_bytes most ls)
+
+pub start_fits : (r : Rules) (most : ℕ) → All (Fits most) (rule.start_front r []).asking
+start_fits r most = no_bytes most (rule.askers r.side r.limits.copies)
+
+pub masked_first : (side : Side) (r : Rules) (now : rule.Reading) → masked_now side r false now ≡ masked_on side r now
+masked_first Incoming r now = refl
+masked_first Outgoing r now = refl

@@ -23,7 +23,7 @@ flat_seen : (r : Rules) (xs : List DoneExchange) → flat_map (λ x. exchange_ro
 flat_seen r [] = refl
 flat_seen r (x ∷ xs) = ap (λ rows. exchange_rows r (seen_exchange x) ++ rows) (flat_seen r xs)
 
-rows_of : (r : Rules) (xs : List DoneExchange) → rows_are r xs → flat_map (λ x. x.replies.rows) xs ≡ flat_map (exchange_rows r) (map seen_exchange xs)
+pub rows_of : (r : Rules) (xs : List DoneExchange) → rows_are r xs → flat_map (λ x. x.replies.rows) xs ≡ flat_map (exchange_rows r) (map seen_exchange xs)
 rows_of r xs are =
     flat_by (λ (x : DoneExchange). x.replies.rows) xs
     ∙ ap (flat_map (λ rows. rows)) are

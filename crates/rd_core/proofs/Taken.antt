@@ -1,7 +1,7 @@
 -- One step of a session, over histories.
 use Rattle.std.proofs.Common.{◌≡◌, ℕ, zero, suc, ◌+◌, ◌-◌, Bool, true, false, List, [], ◌∷◌, ◌++◌, length, drop, map, max, min, Option, Some, None, refl, sym, ap, ap₂, ◌∙◌, length-append, cond, append-nil, Result, Ok, Err}
 use Rattle.std.specs.Prelude.{is_some, option_and_then, IfOk, OnOk, unwrap_or, ◌||◌, ◌&&◌, nat_le, ◌^◌}
-use Rattle.std.proofs.lemmas.List.{drop_at}
+use Rattle.std.proofs.lemmas.List.{drop_at, length-map}
 use Rattle.rd_base.specs.declared.values.What.{What}
 use Rattle.rd_base.specs.declared.values.What.TheVariants.{Piece, End, ReadFail, WriteFail, Timer, Stop}
 use Rattle.rd_base.specs.declared.values.Ending.{Ending}
@@ -13,8 +13,9 @@ use Rattle.rd_base.specs.Words.{last_of_list, without_last}
 use Rattle.rd_base.specs.History.{History, Entry, is_well_formed, piece_of, ends, moment, is_timer, may_follow, follows_well}
 use Rattle.rd_dialect.specs.Grammar.{Grammar}
 use Rattle.rd_dialect.specs.Laws.{Lawful}
-use Rattle.rd_rules.specs.Exchange.{Rules, Exchange, Front, Open, Reading, reading, read, note}
-use Rattle.rd_rules.specs.Given.{given, own_after, masked_on}
+use Rattle.rd_rules.specs.Exchange.{Rules, Exchange, Front, Open, Reading, reading, read, note, out_list}
+use Rattle.rd_rules.specs.Given.{given, own_after, masked_on, agreed_on}
+use Rattle.rd_base.specs.declared.values.Side.TheVariants.{Incoming, Outgoing}
 use Rattle.rd_rules.specs.Step.{grow, grow_by, grow_front, grow_front_by, with_done, given_now}
 use Rattle.rd_rules.specs.Wait.{Wait, wait, same_wait, began_by, due_moment, limit_of}
 use Rattle.rd_rules.specs.Trouble.{Now, now_of, ends_by, trouble_of, trouble, or_else, unsolicited, unsolicited_at, unsolicited_by, first_trouble, link_fault, stopped, late, is_timer_entry, full_log_at}
@@ -290,7 +291,10 @@ start_at r s stage entries latest since sum rows end =
       timed = λ live. record { count = entries; latest = latest; since = since };
     }
   where
-    none_taken : (b : Bool) → unwrap_or (cond b (Some []) None) [] ≡ []
+    nothing : History
+    nothing = []
+
+    none_taken : (b : Bool) → unwrap_or (cond b (Some nothing) None) nothing ≡ nothing
     none_taken true = refl
     none_taken false = refl
 
@@ -318,3 +322,13 @@ due_is r s h at live =
     let stage : s.at.stage ≡ now_of r (reading r h) = at.stage ∙ ap (λ g. now_of r (reading r g)) (acted_live r h (sym at.ending ∙ live)) in
     let waits : wait_at r.side s.at.stage ≡ wait r h = ap (wait_at r.side) stage in
     (ap₂ (λ b (v : Wait). min (b + limit_of r.limits v.which) (2 ^ 64 - 1)) (at.timed live).since waits, ap (λ (v : Wait). v.which) waits)
+
+-- how many exchanges are agreed, by where a session stands
+pub agreed_in : (r : Rules) (now : Now) (read : Reading) → now ≡ now_of r read → agreed_on Incoming read ≡ now.count
+agreed_in r now read is = sym (ap (λ (n : Now). n.count) is)
+
+pub agreed_out : (r : Rules) (now : Now) (read : Reading) → now ≡ now_of r read → agreed_on Outgoing read ≡ now.count + length (out_list now.out)
+agreed_out r now read is =
+    length-append (map (λ (x : Exchange). x.ask) read.done) (out_list read.out)
+    ∙ ap (λ n. n + length (out_list read.out)) (length-map read.done (λ (x : Exchange). x.ask))
+    ∙ sym (ap (λ (n : Now). n.count + length (out_list n.out)) is)

@@ -1,5 +1,5 @@
 -- What is masked and learnt, one entry further.
-use Rattle.std.proofs.Common.{◌≡◌, ℕ, ◌+◌, ◌-◌, Bool, true, false, cond, List, [], ◌∷◌, ◌++◌, length, drop, Option, Some, None, refl, sym, ap, ap₂, subst, ◌∙◌}
+use Rattle.std.proofs.Common.{◌≡◌, ℕ, ◌+◌, ◌-◌, Bool, true, false, cond, List, [], ◌∷◌, ◌++◌, length, drop, Option, Some, None, refl, sym, ap, ap₂, subst, ◌∙◌, arith}
 use Rattle.std.specs.Prelude.{is_some, unwrap_or, option_and_then}
 use Rattle.std.specs.List.{flat_map}
 use Rattle.std.proofs.lemmas.List.{drop_at, drop_all}
@@ -58,7 +58,7 @@ tally_on r laws h e next w q acts is =
 pub tally_held : (r : Rules) (h : History) (e : Entry) → final r h ≡ None → acted r (h ++ e ∷ []) ≡ h → tally_of r (h ++ e ∷ []) ≡ record { masked = masked r h; rows = [] }
 tally_held r h e q acts =
     let sum : masked r (h ++ e ∷ []) ≡ masked r h = ap (λ g. masked_on r.side r (reading r g)) (acts ∙ sym (acted_live r h q)) in
-    let rows : agreed_rows r (h ++ e ∷ []) ≡ [] = rows_next r h e q ∙ ap (rows_past r h) acts ∙ ap (flat_map (exchange_rows r)) (drop_all (reading r h).done) in
+    let rows : agreed_rows r (h ++ e ∷ []) ≡ [] = rows_next r h e q ∙ ap (rows_past r h) acts ∙ ap (flat_map (exchange_rows r)) (drop_all (length (reading r h).done) (reading r h).done (omega arith)) in
     ap₂ (λ n rs. record { masked = n; rows = rs }) sum rows
 
 -- after an ending
@@ -77,5 +77,5 @@ tally_over r h e over same = by (stop r h) refl over
 pub tally_start : (r : Rules) (n : ℕ) → n ≡ masked_on r.side r (reading r []) → acted r [] ≡ [] → taken r [] ≡ [] → record { masked = n; rows = [] } ≡ tally_of r []
 tally_start r n is acts all =
     let rows : agreed_rows r [] ≡ [] =
-    ap (λ g. rows_past r (acted r (without_last g)) (acted r [])) all ∙ ap (λ g. rows_past r g g) acts ∙ ap (flat_map (exchange_rows r)) (drop_all (reading r []).done) in
+    ap (λ g. rows_past r (acted r (without_last g)) (acted r [])) all ∙ ap (λ g. rows_past r g g) acts ∙ ap (flat_map (exchange_rows r)) (drop_all (length (reading r []).done) (reading r []).done (omega arith)) in
     sym (ap₂ (λ m rs. record { masked = m; rows = rs }) (ap (λ g. masked_on r.side r (reading r g)) acts ∙ sym is) rows)

@@ -108,7 +108,10 @@ impl<D: Dialect> Session<D> {
     {
         match self.setup.side {
             Side::Incoming => self.stage.count,
-            Side::Outgoing => self.stage.count + u32::from(self.stage.out.is_some()),
+            Side::Outgoing => match self.stage.out {
+                Some(_) => self.stage.count + 1,
+                None => self.stage.count,
+            },
         }
     }
 

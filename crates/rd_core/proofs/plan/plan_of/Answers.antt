@@ -4,7 +4,9 @@ use Rattle.rd_rules.specs.Exchange as rule
 use Rattle.rd_reading.specs.declared.exchange.DoneExchange.{DoneExchange}
 use Rattle.rd_reading.specs.Seen.{rules_of, seen_front}
 use Rattle.std.proofs.Common.{◌-◌}
-use Rattle.rd_core.proofs.Planned.{stage_is}
+use Rattle.rd_rules.specs.Given.{exchange_rows}
+use Rattle.rd_rules.specs.Step.{masked_now}
+use Rattle.rd_core.proofs.Planned.{stage_is, rows_of}
 use Rattle.rd_core.proofs.plan.plan_of.Goals as goal
 
 pub returns-clause-stage : goal.returns-clause-stage
@@ -16,3 +18,17 @@ returns-clause-stage g c =
     c.in_ok-reading.ensures.reads c.in_ok-reading.ensures.spare c.requires.count
     c.stage_of-stage.ensures.count c.stage_of-stage.ensures.bye c.stage_of-stage.ensures.left c.stage_of-stage.ensures.out
     (c.in_ok-rows.ensures ∙ ap (flat_map (λ (x : DoneExchange). x.replies.rows)) c.as_slice.ensures.value) c.in_ok-reading.ensures.rows
+
+pub returns-clause-rows : goal.returns-clause-rows
+returns-clause-rows g c =
+    let rules = rules_of (g.D.Dialect.grammar c.args.dialect.now) c.args.setup.now in
+    c.in_ok-rows.ensures
+    ∙ ap (flat_map (λ (x : DoneExchange). x.replies.rows)) c.as_slice.ensures.value
+    ∙ rows_of rules c.in_ok-reading.reading.done.items c.in_ok-reading.ensures.rows
+    ∙ ap (λ (n : rule.Reading). flat_map (exchange_rows rules) n.done) c.in_ok-reading.ensures.reads
+
+pub returns-clause-masked : goal.returns-clause-masked
+returns-clause-masked g c =
+    let rules = rules_of (g.D.Dialect.grammar c.args.dialect.now) c.args.setup.now in
+    c.masked_in-masked.ensures.is rules c.in_ok-reading.ensures.masked c.in_ok-reading.ensures.out_masked
+    ∙ ap (masked_now c.args.setup.now.side rules c.args.before.was_out) c.in_ok-reading.ensures.reads
