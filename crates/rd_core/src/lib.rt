@@ -10,6 +10,7 @@ mod session;
 mod stage;
 mod trouble;
 mod waits;
+mod wanted;
 
 pub use rd_reading::Setup;
 pub use session::Session;

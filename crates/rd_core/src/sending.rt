@@ -100,7 +100,7 @@ fn learnt_row(alloc: Global, own: &Rows, row: &Row) -> Result<Rows, NoMemory>
 }
 
 /// The rows that a request is looked up in: those after what was learnt in this step, else the session's.
-fn latest<'a>(own: &'a Rows, later: &'a Option<Rows>) -> &'a Rows
+pub(crate) fn latest<'a>(own: &'a Rows, later: &'a Option<Rows>) -> &'a Rows
     ensures { result.now ≡ latest_of own.now later.now }
 {
     match later {
@@ -110,7 +110,7 @@ fn latest<'a>(own: &'a Rows, later: &'a Option<Rows>) -> &'a Rows
 }
 
 /// The latest own rows after those of an exchange.
-fn after_rows(
+pub(crate) fn after_rows(
     alloc: Global,
     own: &Rows,
     before: Option<Rows>,

@@ -1,6 +1,6 @@
 -- Few places are masked.
-use Rattle.std.proofs.Common.{◌≡◌, ℕ, zero, suc, ◌+◌, ◌*◌, ◌<◌, ◌≤◌, Bool, true, false, cond, List, [], ◌∷◌, ◌++◌, length, map, drop, Option, Some, None, refl, sym, ap, subst, ◌∙◌, arith, append-nil, length-append}
-use Rattle.std.specs.Prelude.{nat_lt, ◌||◌, not, slice_get, slice_index_or, sum_by}
+use Rattle.std.proofs.Common.{◌≡◌, ℕ, zero, suc, ◌*◌, ◌≤◌, Bool, true, false, cond, List, [], ◌∷◌, ◌++◌, length, map, Option, Some, None, refl, sym, ap, subst, ◌∙◌, arith, append-nil, length-append}
+use Rattle.std.specs.Prelude.{nat_lt, ◌||◌, not, slice_get, slice_index_or}
 use Rattle.std.specs.List.{list_any, position}
 use Rattle.std.proofs.lemmas.Bool.{ltb-false}
 use Rattle.std.proofs.lemmas.List.{length-map}
@@ -13,7 +13,7 @@ use Rattle.rd_base.specs.declared.values.Side.TheVariants.{Incoming, Outgoing}
 use Rattle.rd_base.specs.declared.verdict.Verdict.{Verdict}
 use Rattle.rd_base.specs.declared.verdict.Verdict.TheVariants.{Agreed, Disagree, Noise}
 use Rattle.rd_base.specs.Token.{Token}
-use Rattle.rd_base.specs.Verdicts.{verdict, verdict_from, fault, fault_or, or_fault, masked_fault, plain_fault, masked_below, is_masked, mask_of, longest, is_long, least_disagrees, is_soft, one_alone, token_at}
+use Rattle.rd_base.specs.Verdicts.{verdict_from, fault, fault_or, or_fault, masked_fault, plain_fault, masked_below, is_masked, mask_of, longest, is_long, least_disagrees, is_soft, one_alone, token_at}
 use Rattle.rd_rules.specs.Exchange.{Rules, Ask, Exchange, Front, Reading, reading, read, asked, answered, ask_at, replies_at, after, released, out_list, start_front, LinkUnit}
 use Rattle.rd_rules.specs.Given.{agreed_mask, ask_masked, replies_masked, ask_lists, reply_lists, masked_on}
 use Rattle.rd_verdict.proofs.AgreedPlaces.{fault_not}

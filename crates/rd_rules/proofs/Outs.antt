@@ -1,5 +1,5 @@
 -- The request that is out, and how much of it is open.
-use Rattle.std.proofs.Common.{◌≡◌, ℕ, zero, suc, ◌+◌, ◌-◌, ◌≤◌, Bool, true, false, cond, List, [], ◌∷◌, ◌++◌, length, map, take, drop, Option, Some, None, refl, sym, ap, ap₂, subst, ◌∙◌, arith, length-append}
+use Rattle.std.proofs.Common.{◌≡◌, ℕ, zero, suc, ◌+◌, ◌-◌, ◌≤◌, Bool, true, false, cond, List, [], ◌∷◌, ◌++◌, length, map, drop, Option, Some, None, refl, sym, ap, subst, ◌∙◌, arith, length-append}
 use Rattle.std.specs.Prelude.{option_map, unwrap_or}
 use Rattle.std.specs.List.{All}
 use Rattle.std.proofs.lemmas.List.{length-drop, length-take}
@@ -14,9 +14,9 @@ use Rattle.rd_dialect.specs.Grammar.{Grammar}
 use Rattle.rd_dialect.specs.Laws.{Lawful}
 use Rattle.rd_dialect.specs.Due.{request_due}
 use Rattle.rd_dialect.specs.declared.due.Due.{Due}
-use Rattle.rd_rules.specs.Exchange.{Open, LinkUnit, Ask, Exchange, Front, Reading, read, asked, answered, ask_at, agreed_ask, replies_at, after, past, units, unit_by, each_unit, scan_open, others, first_len, with_first, nothing_out, if_agreed, agree, token_lists}
+use Rattle.rd_rules.specs.Exchange.{Open, LinkUnit, Ask, Front, read, asked, answered, ask_at, agreed_ask, replies_at, after, past, units, unit_by, each_unit, scan_open, others, first_len, agree, token_lists}
 use Rattle.rd_rules.specs.Step.{grow_by, grow_front_by}
-use Rattle.rd_rules.proofs.Grows.{Longer, Longer_all, ask-longer}
+use Rattle.rd_rules.proofs.Grows.{Longer_all, ask-longer}
 
 -- so many bytes are open at most
 abbrev pub IsShort : ℕ → Open → Type 0

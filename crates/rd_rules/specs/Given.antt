@@ -1,5 +1,5 @@
 -- What each link is given.
-use Rattle.std.specs.Prelude.{ℕ, suc, Bool, false, List, [], ◌∷◌, ◌++◌, length, drop, map, sum_by, Option, Some, None, if◌then◌else◌, ◌==◌, nat_le, nat_lt, unwrap_or, option_map, option_and_then, fold}
+use Rattle.std.specs.Prelude.{ℕ, suc, Bool, false, List, [], ◌∷◌, ◌++◌, length, drop, sum_by, Option, Some, None, if◌then◌else◌, ◌==◌, nat_le, nat_lt, unwrap_or, option_map, option_and_then, fold}
 use Rattle.std.specs.List.{flat_map}
 use Rattle.rd_base.specs.declared.values.MaskLimits.{MaskLimits}
 use Rattle.rd_base.specs.declared.values.Side.{Side}

@@ -1,6 +1,6 @@
 -- The words that a step asks of the shared book.
-use Rattle.std.specs.Prelude.{ℕ, Bool, ◌&&◌, not, List, [], ◌∷◌, ◌++◌, length, take, drop, filter, find, is_some, bytes_eq}
-use Rattle.std.specs.List.{flat_map}
+use Rattle.std.specs.Prelude.{ℕ, Bool, ◌&&◌, not, if◌then◌else◌, List, [], ◌∷◌, ◌++◌, length, take, drop, filter, find, fold, is_some, bytes_eq}
+use Rattle.std.specs.List.{flat_map, list_any}
 use Rattle.rd_base.specs.Swap.{is_row_word, shows}
 use Rattle.rd_base.specs.History.{History, Entry, Row}
 use Rattle.rd_rules.specs.Exchange.{Rules, reading, released, note, first_bytes}
@@ -17,10 +17,13 @@ unknown_words r rel =
     filter (λ word. is_row_word word && is_unknown rel.own word)
     (r.grammar.asked rel.ask.phase (note r.grammar rel.ask) (first_bytes rel.ask.units))
 
+-- a word behind others, where it isn't among them
+abbrev pub add_word : List (List ℕ) → List ℕ → List (List ℕ)
+add_word words word = if list_any (λ other. bytes_eq other word) words then words else words ++ word ∷ []
+
 -- each word once, at its first place
 abbrev pub distinct : List (List ℕ) → List (List ℕ)
-distinct [] = []
-distinct (word ∷ words) = word ∷ filter (λ other. not (bytes_eq other word)) (distinct words)
+distinct words = fold add_word [] words
 
 -- the requests that a later history releases past those of an earlier one
 abbrev pub released_past : Rules → History → History → List Release
