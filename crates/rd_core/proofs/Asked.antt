@@ -1,11 +1,14 @@
 -- Words that are added one by one, each once, and the first 4,096.
-use Rattle.std.proofs.Common.{◌≡◌, ℕ, suc, ◌+◌, ◌-◌, ◌<◌, ◌≤◌, Bool, true, false, cond, List, [], ◌∷◌, ◌++◌, length, take, drop, Option, Some, None, refl, sym, ap, ap₂, subst, ◌∙◌, arith, length-append, get_or}
-use Rattle.std.specs.Prelude.{fold, filter, bytes_eq, ◌&&◌, nat_le}
+use Rattle.std.proofs.Common.{◌≡◌, ℕ, ◌+◌, ◌<◌, ◌≤◌, Bool, true, false, cond, List, [], ◌∷◌, ◌++◌, length, take, drop, refl, sym, ap, ◌∙◌, arith, length-append, append-nil, get_or}
+use Rattle.std.specs.Prelude.{fold, filter, bytes_eq, nat_le}
 use Rattle.std.specs.List.{list_any}
 use Rattle.std.proofs.lemmas.Bool.Decides.{nat_tests}
 use Rattle.std.proofs.lemmas.List.{length-take, length-take-le, take-append-le, take_all, take_more}
 use Rattle.std.proofs.lemmas.List.Sums.{fold-append}
 use Rattle.std.proofs.lemmas.List.Elements.{filter-append}
+use Rattle.std.specs.List.{flat_map}
+use Rattle.rd_rules.specs.Given.{Release}
+use Rattle.rd_rules.specs.Step.{sent_before}
 use Rattle.rd_rules.specs.Wanted.{add_word}
 
 abbrev Texts : Type 0
@@ -70,3 +73,15 @@ none_passes n words word test le is = sym (ap (λ b. take n (fold add_word words
 
 pub length-taken : (n : ℕ) (words all : Texts) → words ≡ take n all → length words ≤ n
 length-taken n words all is = rw (is, length-take n all) (omega arith)
+
+-- the words of a first request, which may be skipped, and those of further ones
+pub words_step : (n : ℕ) (f : Release → Texts) (skips : Bool) (words : Texts) (rel : Release) (rels : List Release)
+    → take n (fold add_word (take n (fold add_word words (flat_map f (drop (sent_before skips) (rel ∷ []))))) (flat_map f rels)) ≡ take n (fold add_word words (flat_map f (drop (sent_before skips) (rel ∷ rels))))
+words_step n f true words rel rels = fold_take n words (flat_map f rels)
+words_step n f false words rel rels =
+    fold_parts n words (f rel ++ []) (flat_map f rels)
+    ∙ ap (λ ws. take n (fold add_word words (ws ++ flat_map f rels))) (append-nil (f rel))
+
+pub no_words : (n : ℕ) (f : Release → Texts) (skips : Bool) (words : Texts) → length words ≤ n → take n (fold add_word words (flat_map f (drop (sent_before skips) []))) ≡ words
+no_words n f true words le = take_all n words le
+no_words n f false words le = take_all n words le

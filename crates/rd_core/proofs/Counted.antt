@@ -1,16 +1,15 @@
 -- Counts of masked places that are kept are those of the definitions.
-use Rattle.std.proofs.Common.{◌≡◌, ℕ, ◌+◌, Bool, true, false, List, [], ◌∷◌, ◌++◌, drop, map, Option, Some, None, refl, sym, ap, ap₂, ◌∙◌, arith}
+use Rattle.std.proofs.Common.{◌≡◌, ◌+◌, Bool, true, false, List, [], ◌∷◌, ◌++◌, drop, map, Option, Some, None, refl, sym, ap₂, ◌∙◌, arith}
 use Rattle.std.specs.Prelude.{sum_by, IfSome, option_map}
 use Rattle.std.specs.List.{All}
 use Rattle.std.proofs.lemmas.List.Sums.{sum_by-append, sum_by-cons}
 use Rattle.std.proofs.lemmas.List.Elements.{All-head, All-tail}
-use Rattle.rd_rules.specs.Exchange.{Rules, Ask, Exchange, out_list, released}
+use Rattle.rd_rules.specs.Exchange.{Rules, out_list}
 use Rattle.rd_rules.specs.Given.{ask_masked, replies_masked}
 use Rattle.rd_rules.specs.Step.{sent_before}
 use Rattle.rd_reading.specs.declared.exchange.Request.{Request}
 use Rattle.rd_reading.specs.declared.exchange.DoneExchange.{DoneExchange}
-use Rattle.rd_reading.specs.declared.exchange.Reading.{Reading}
-use Rattle.rd_reading.specs.Seen.{seen_request, seen_exchange, seen_reading, IsMasked, AreMasked}
+use Rattle.rd_reading.specs.Seen.{seen_request, seen_exchange, IsMasked, AreMasked}
 use Rattle.rd_core.specs.Masks.{masked_out, masked_asked}
 
 pub replies_counted : (r : Rules) (xs : List DoneExchange) → All (AreMasked r) xs → sum_by (λ x. x.replies.masked) xs ≡ sum_by (replies_masked r) (map seen_exchange xs)

@@ -4,5 +4,7 @@ pub mod Counted
 pub mod Tallied
 pub mod Asked
 pub mod Taken
+pub mod WantedSteps
 pub mod Planned
 pub mod Moves
+pub mod Faces

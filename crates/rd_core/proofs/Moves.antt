@@ -20,7 +20,7 @@ use Rattle.rd_rules.specs.Exchange.{Rules, reading, read, scan_open}
 use Rattle.rd_rules.specs.Given.{learnt, masked_on}
 use Rattle.rd_rules.specs.Trouble.{Now, now_of, trouble_of, or_else, full_log_at, malformed, too_big, unsupported, disagreed, end_trouble, scan_trouble, big_among, is_big, open_asking, is_too_big, link_of, due_of, by_links}
 use Rattle.rd_rules.specs.Step.{grow_front_by, masked_now}
-use Rattle.rd_rules.proofs.Outs.{IsShort, short_grown, short_out, short_out_after, short_with, out_at}
+use Rattle.rd_rules.proofs.Outs.{short_grown, short_out, short_out_after, short_with, out_at}
 use Rattle.rd_dialect.specs.Laws.{Lawful}
 use Rattle.rd_rules.proofs.Streams.{follows_well-append}
 use Rattle.rd_reading.specs.declared.setup.Setup.{Setup}

@@ -9,8 +9,8 @@ use Rattle.rd_base.specs.declared.values.Ending.TheVariants as ending
 use Rattle.rd_base.specs.declared.bytes.NoMemory.{NoMemory}
 use Rattle.rd_base.specs.declared.sends.Send.{Send}
 use Rattle.rd_base.specs.Sent.{send_of, sends_to}
-use Rattle.rd_base.specs.Words.{last_of_list, without_last}
-use Rattle.rd_base.specs.History.{History, Entry, is_well_formed, piece_of, ends, moment, is_timer, may_follow, follows_well}
+use Rattle.rd_base.specs.Words.{without_last}
+use Rattle.rd_base.specs.History.{History, Entry, is_well_formed, piece_of, ends, moment, is_timer}
 use Rattle.rd_dialect.specs.Grammar.{Grammar}
 use Rattle.rd_dialect.specs.Laws.{Lawful}
 use Rattle.rd_rules.specs.Exchange.{Rules, Exchange, Front, Open, Reading, reading, read, note, out_list}
@@ -19,7 +19,7 @@ use Rattle.rd_base.specs.declared.values.Side.TheVariants.{Incoming, Outgoing}
 use Rattle.rd_rules.specs.Step.{grow, grow_by, grow_front, grow_front_by, with_done, given_now}
 use Rattle.rd_rules.specs.Wait.{Wait, wait, same_wait, began_by, due_moment, limit_of}
 use Rattle.rd_rules.specs.Trouble.{Now, now_of, ends_by, trouble_of, trouble, or_else, unsolicited, unsolicited_at, unsolicited_by, first_trouble, link_fault, stopped, late, is_timer_entry, full_log_at}
-use Rattle.rd_rules.specs.Sent.{stop, final, acted, acted_of, sent, sent_past}
+use Rattle.rd_rules.specs.Sent.{final, acted, acted_of, sent, sent_past}
 use Rattle.rd_rules.proofs.Steps.{reading-append}
 use Rattle.rd_rules.proofs.Acted.{not_both, no_stop, no_trouble, stop_next, last_of, front_of, acted_live, acted_by, acted_next, some_stop, front_follows}
 use Rattle.rd_rules.proofs.GivenSteps.{given_next, own_after-append}
@@ -73,7 +73,7 @@ final_by : (f : History → Option Ending) (h : History) (o : Option Ending) →
 final_by f h None is = refl
 final_by f h (Some t) is = is
 
-unsolicited_next : (r : Rules) (h : History) (e : Entry) → unsolicited r (h ++ e ∷ []) ≡ unsolicited_by r.grammar (now_of r (reading r h)) e.what
+pub unsolicited_next : (r : Rules) (h : History) (e : Entry) → unsolicited r (h ++ e ∷ []) ≡ unsolicited_by r.grammar (now_of r (reading r h)) e.what
 unsolicited_next r h e = ap₂ (unsolicited_at r) (last_of h e) (ap (reading r) (front_of h e))
 
 pub final_next : (r : Rules) (h : History) (e : Entry) → final r h ≡ None → final r (h ++ e ∷ []) ≡ trouble r (h ++ e ∷ [])

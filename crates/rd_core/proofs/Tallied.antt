@@ -1,13 +1,12 @@
 -- What is masked and learnt, one entry further.
-use Rattle.std.proofs.Common.{◌≡◌, ℕ, ◌+◌, ◌-◌, Bool, true, false, cond, List, [], ◌∷◌, ◌++◌, length, drop, Option, Some, None, refl, sym, ap, ap₂, subst, ◌∙◌, arith}
+use Rattle.std.proofs.Common.{◌≡◌, ℕ, ◌+◌, Bool, true, false, cond, List, [], ◌∷◌, ◌++◌, length, drop, Option, Some, None, refl, sym, ap, ap₂, subst, ◌∙◌, arith}
 use Rattle.std.specs.Prelude.{is_some, unwrap_or, option_and_then}
 use Rattle.std.specs.List.{flat_map}
 use Rattle.std.proofs.lemmas.List.{drop_at, drop_all}
-use Rattle.rd_base.specs.declared.values.Ending.{Ending}
 use Rattle.rd_base.specs.Words.{without_last}
 use Rattle.rd_base.specs.History.{History, Entry, is_well_formed}
 use Rattle.rd_dialect.specs.Laws.{Lawful}
-use Rattle.rd_rules.specs.Exchange.{Rules, Exchange, Reading, reading}
+use Rattle.rd_rules.specs.Exchange.{Rules, Reading, reading}
 use Rattle.rd_rules.specs.Given.{exchange_rows, masked_on}
 use Rattle.rd_rules.specs.Step.{with_done, masked_now}
 use Rattle.rd_rules.specs.Trouble.{now_of, trouble}
@@ -17,7 +16,7 @@ use Rattle.rd_rules.proofs.Streams.{reading-grown}
 use Rattle.rd_rules.proofs.Stays.{stop-append}
 use Rattle.rd_rules.proofs.Masks.{masked_next}
 use Rattle.rd_rules.proofs.Acted.{no_stop, stop_next, front_of, acted_live}
-use Rattle.rd_core.specs.Standing.{Tally, tally_after, next_reading}
+use Rattle.rd_core.specs.Standing.{Tally, tally_after}
 
 abbrev pub tally_of : Rules → History → Tally
 tally_of r h = record { masked = masked r h; rows = agreed_rows r h }

@@ -1,5 +1,5 @@
 -- What is true of all that a session keeps.
-use Rattle.std.specs.Prelude.{◌≡◌, ℕ, Bool, false, nat_lt, ◌≤◌, ◌<◌, ◌+◌, ◌*◌, length, Option, Some, None, IfSome, option_map}
+use Rattle.std.specs.Prelude.{◌≡◌, ℕ, Bool, false, nat_lt, ◌≤◌, ◌<◌, ◌+◌, ◌*◌, length, Option, Some, None, option_map}
 use Rattle.std.specs.List.{All}
 use Rattle.rd_base.specs.declared.values.What.{What}
 use Rattle.rd_base.specs.declared.values.What.TheVariants.{Piece, End, ReadFail, WriteFail, Timer, Stop}

@@ -1,5 +1,5 @@
 -- What a session keeps, and one step of it.
-use Rattle.std.specs.Prelude.{◌≡◌, ℕ, ◌+◌, ◌-◌, ◌^◌, ◌&&◌, Bool, List, [], ◌∷◌, ◌++◌, length, min, max, nat_le, Option, Some, None, is_some, if◌then◌else◌}
+use Rattle.std.specs.Prelude.{◌≡◌, ℕ, ◌+◌, ◌-◌, ◌^◌, ◌&&◌, Bool, List, [], ◌∷◌, ◌++◌, length, sum_by, min, max, nat_le, Option, Some, None, is_some, if◌then◌else◌}
 use Rattle.std.specs.List.{flat_map}
 use Rattle.rd_base.specs.declared.values.Side.{Side}
 use Rattle.rd_base.specs.declared.values.Ending.{Ending}
@@ -50,6 +50,10 @@ pub record IsAt {D : Type 0} (r : Rules) (s : Seen D) (h : History) : Type 0 whe
   pub tally : s.tally ≡ record { masked = masked r h; rows = agreed_rows r h }
   pub ending : s.ending ≡ final r h
   pub timed : s.ending ≡ None → IsTimed r s.at h
+
+-- how many bytes are open, of all links
+abbrev pub open_len : Now → ℕ
+open_len now = sum_by (λ o. length o.bytes) now.left.asking + sum_by (λ o. length o.bytes) now.left.answering
 
 -- ---- one step
 

@@ -5,21 +5,23 @@ ghost use Rattle.rd_rules.specs.Exchange.{Rules};
 ghost use Rattle.rd_rules.specs.Given.{learnt};
 ghost use Rattle.rd_rules.specs.Sent.{final, exchanges, masked, agreed_rows};
 ghost use Rattle.rd_rules.specs.Wait.{wait, due_moment};
+ghost use Rattle.rd_rules.specs.Wanted.{wanted};
 ghost use Rattle.rd_rules.specs.Trouble.{or_else, full_log_at};
 ghost use Rattle.rd_core.specs.Faults.{fault_by};
 ghost use Rattle.rd_reading.specs.Seen.{rules_of};
 ghost use Rattle.rd_core.specs.Clocks.{standing, entry_of};
 ghost use Rattle.rd_core.specs.Stages.{seen_stage};
-ghost use Rattle.rd_core.specs.Standing.{Seen, IsAt, Goes, Steps, Counts, SendsMore, late_at, next_reading, tally_after};
+ghost use Rattle.rd_core.specs.Standing.{Seen, IsAt, Goes, Steps, Counts, SendsMore, late_at, next_reading, tally_after, open_len};
 ghost use Rattle.rd_core.specs.Kept.{IsKept, HasMore, is_oversized};
 
 use crate::clock::Clock;
 use crate::faults::{fault, unsolicited};
 use crate::plan::{Before, Plan, plan_of};
 use crate::stage::Stage;
-use crate::trouble::or_else;
+use crate::trouble::{open_len, or_else};
 use crate::waits::{clock_after, due_at, full_log, late, which_at};
-use rd_base::{Ending, Happening, NoMemory, Rows, Sends, Side, What, Which};
+use crate::wanted::words_next;
+use rd_base::{Ending, Happening, NoMemory, Rows, Sends, Side, What, Which, Words};
 use rd_dialect::Dialect;
 use rd_reading::{Setup, grow_front, start_front};
 use rd_token_map::OwnRows;
@@ -129,6 +131,14 @@ impl<D: Dialect> Session<D> {
         &self.rows
     }
 
+    /// How many bytes the session keeps of its links: those past the last agreed exchange.
+    pub fn open_bytes(&self) -> usize
+        ensures { result ≡ open_len self.now.at.stage }
+    {
+        let left = &self.stage.left;
+        open_len(left.asking.as_slice()) + open_len(left.answering.as_slice())
+    }
+
     /// The moment in milliseconds at which the session's wait ends, and what it waits for. None after an
     /// ending.
     pub fn due(&self) -> Option<(u64, Which)>
@@ -164,6 +174,33 @@ impl<D: Dialect> Session<D> {
             return Ok(Sends::new(self.alloc));
         }
         self.go(happening, told)
+    }
+
+    /// The words of 16 to 128 bytes that are looked up in the requests which this happening releases, each once, in
+    /// the order of their first places, without those that the own rows before their request show; the first 4,096.
+    pub fn wanted(&self, happening: &Happening) -> Result<Words, NoMemory>
+        ensures { IfOk result (λ words. (h : List Entry) → is_well_formed self.now.setup.limits.copies (h ++ entry_of happening.now [] ∷ []) ≡ true
+            → IsAt (rules_of (D.grammar self.now.dialect) self.now.setup) self.now h
+            → words ≡ wanted (rules_of (D.grammar self.now.dialect) self.now.setup) h (entry_of happening.now [])) }
+    {
+        if self.ending.is_some() {
+            return Ok(Words::new(self.alloc));
+        }
+        let what = &happening.what;
+        if is_oversized(what) {
+            return Ok(Words::new(self.alloc));
+        }
+        match unsolicited(self.alloc, &self.dialect, &self.stage, what)? {
+            Some(_) => Ok(Words::new(self.alloc)),
+            None => words_next(
+                self.alloc,
+                &self.dialect,
+                &self.setup,
+                &self.stage,
+                self.own.rows(),
+                what,
+            ),
+        }
     }
 
     fn go(&mut self, happening: &Happening, told: &Rows) -> Result<Sends, NoMemory>

@@ -1,4 +1,5 @@
-ghost use Rattle.std.specs.Prelude.{◌≡◌, ◌≤◌, ◌<◌, ◌+◌, ◌++◌, [], ◌∷◌, List, ℕ, Some, None, not, map, length, is_some, find, ◌&&◌, ◌==◌, option_map, IfSome, IfOk};
+ghost use Rattle.rd_reading.specs.Room.{room};
+ghost use Rattle.std.specs.Prelude.{◌≡◌, ◌≤◌, ◌<◌, ◌+◌, ◌*◌, sum_by, ◌++◌, [], ◌∷◌, List, ℕ, Some, None, not, map, length, is_some, find, ◌&&◌, ◌==◌, option_map, IfSome, IfOk};
 ghost use Rattle.std.specs.List.{list_all};
 ghost use Rattle.rd_base.specs.Limits.{AreMaskLimits};
 ghost use Rattle.rd_base.specs.Words.{is_empty};
@@ -189,6 +190,19 @@ fn is_open(one: &Open) -> bool
     ensures { result ≡ not (is_empty one.now.bytes) }
 {
     !one.bytes().is_empty()
+}
+
+/// How many bytes are open on these links.
+pub(crate) fn open_len(opens: &[Open]) -> usize
+    requires { length opens.now ≤ 8 }
+    ensures sum { result ≡ sum_by (λ o. length o.bytes) opens.now }
+    ensures most { result ≤ room * length opens.now }
+{
+    let mut total = 0;
+    for one in opens {
+        total += one.bytes().len();
+    }
+    total
 }
 
 pub(crate) fn some_open(opens: &[Open]) -> bool

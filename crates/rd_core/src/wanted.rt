@@ -1,15 +1,14 @@
 ghost use Rattle.std.specs.Prelude.{◌≡◌, ◌≤◌, ◌<◌, ◌-◌, ◌&&◌, [], ◌∷◌, List, ℕ, None, false, length, take, drop, map, filter, fold, is_some, All, option_map, bytes_eq, IfOk, OnOk};
-ghost use Rattle.std.specs.List.{list_any};
+ghost use Rattle.std.specs.List.{list_any, flat_map};
 ghost use Rattle.rd_base.specs.Swap.{is_row_word};
-ghost use Rattle.rd_rules.specs.Given.{releases};
-ghost use Rattle.rd_rules.specs.Step.{sent_before};
-ghost use Rattle.rd_rules.specs.Wanted.{add_word, is_unknown, unknown_words, words_of};
+ghost use Rattle.rd_base.specs.Limits.{AreLimits};
+ghost use Rattle.rd_rules.specs.Exchange as rule;
+ghost use Rattle.rd_rules.specs.Step.{grow_front_by, sent_before};
+ghost use Rattle.rd_rules.specs.Wanted.{add_word, is_unknown, unknown_words, words_read};
 ghost use Rattle.rd_reading.specs.Whole.{IsAsked, IsDone};
-ghost use Rattle.rd_reading.specs.Seen.{seen_request, seen_exchange, rules_of, rows_are};
-ghost use Rattle.rd_core.specs.Clocks.{entry_of};
-ghost use Rattle.rd_core.specs.Kept.{IsKept, is_oversized};
-ghost use Rattle.rd_core.specs.Stages.{seen_stage, HasAsked};
-ghost use Rattle.rd_core.specs.Standing.{next_reading};
+ghost use Rattle.rd_reading.specs.Seen.{seen_request, seen_exchange, seen_front, seen_reading, rules_of, rows_are};
+ghost use Rattle.rd_reading.specs.Room.{HasRoom};
+ghost use Rattle.rd_core.specs.Stages.{HasAsked};
 
 use crate::sending::{after_rows, latest};
 use crate::stage::Stage;
@@ -90,6 +89,26 @@ fn push_asked<D: Dialect>(
     push_all(words, own, &asked)
 }
 
+/// The same, unless the request is skipped.
+fn push_fresh<D: Dialect>(
+    alloc: Global,
+    dialect: &D,
+    setup: &Setup,
+    skips: bool,
+    own: &Rows,
+    request: &Request,
+    words: &mut Words,
+) -> Result<(), NoMemory>
+    requires most { length words.old ≤ 4096 }
+    requires asked { IsAsked (D.grammar dialect.now) (seen_request request.now) }
+    ensures { OnOk result (words.new ≡ take 4096 (fold add_word words.old (flat_map (unknown_words (rules_of (D.grammar dialect.now) setup.now)) (drop (sent_before skips) (record { ask = seen_request request.now; own = own.now } ∷ []))))) }
+{
+    if skips {
+        return Ok(());
+    }
+    push_asked(alloc, dialect, setup, own, request, words)
+}
+
 /// The words of the requests of a reading, each once. The first was sent before where one was out.
 fn words_in<D: Dialect>(
     alloc: Global,
@@ -102,26 +121,23 @@ fn words_in<D: Dialect>(
     requires done { All (λ x. IsDone (D.grammar dialect.now) (seen_exchange x)) reading.now.done.items }
     requires out { HasAsked (D.grammar dialect.now) reading.now.out }
     requires rows { rows_are (rules_of (D.grammar dialect.now) setup.now) reading.now.done.items }
-    ensures { IfOk result (λ words. words ≡ words_of (rules_of (D.grammar dialect.now) setup.now)
-        (drop (sent_before was_out) (releases (rules_of (D.grammar dialect.now) setup.now) own.now (map seen_exchange reading.now.done.items) (option_map seen_request reading.now.out)))) }
+    ensures { IfOk result (λ words. words ≡ words_read (rules_of (D.grammar dialect.now) setup.now) own.now was_out (seen_reading reading.now)) }
 {
     let mut words = Words::new(alloc);
     let mut later = None;
     let mut skips = was_out;
     for exchange in reading.done.as_slice() {
-        if !skips {
-            let rows = latest(own, &later);
-            push_asked(alloc, dialect, setup, rows, &exchange.request, &mut words)?;
-        }
+        let rows = latest(own, &later);
+        let request = &exchange.request;
+        push_fresh(alloc, dialect, setup, skips, rows, request, &mut words)?;
         skips = false;
         later = after_rows(alloc, own, later, &exchange.replies.rows)?;
     }
-    if let Some(request) = &reading.out {
-        if !skips {
-            let rows = latest(own, &later);
-            push_asked(alloc, dialect, setup, rows, request, &mut words)?;
-        }
-    }
+    let Some(request) = &reading.out else {
+        return Ok(words);
+    };
+    let rows = latest(own, &later);
+    push_fresh(alloc, dialect, setup, skips, rows, request, &mut words)?;
     Ok(words)
 }
 
@@ -134,12 +150,12 @@ pub(crate) fn words_next<D: Dialect>(
     own: &Rows,
     what: &What,
 ) -> Result<Words, NoMemory>
-    requires kept { (entries masked : ℕ) × IsKept (D.grammar dialect.now) setup.now stage.now entries masked None }
-    requires sized { is_oversized what.now ≡ false }
-    ensures { IfOk result (λ words. (at : ℕ) → words ≡ words_of (rules_of (D.grammar dialect.now) setup.now)
-        (drop (sent_before (is_some stage.now.out)) (releases (rules_of (D.grammar dialect.now) setup.now) own.now
-        (next_reading (rules_of (D.grammar dialect.now) setup.now) (seen_stage stage.now own.now) (record { at = at; what = what.now; told = [] })).done
-        (next_reading (rules_of (D.grammar dialect.now) setup.now) (seen_stage stage.now own.now) (record { at = at; what = what.now; told = [] })).out))) }
+    requires limits { AreLimits setup.now.limits }
+    requires count { stage.now.count ≤ setup.now.limits.exchanges_max }
+    requires asking { All (HasRoom what.now) stage.now.left.asking.items }
+    requires answering { All (HasRoom what.now) stage.now.left.answering.items }
+    ensures { IfOk result (λ words. words ≡ words_read (rules_of (D.grammar dialect.now) setup.now) own.now (is_some stage.now.out)
+        (rule.read (D.grammar dialect.now) setup.now.limits.mask (setup.now.limits.exchanges_max - stage.now.count) (grow_front_by what.now (seen_front stage.now.left)))) }
 {
     let front = grow_front(alloc, &stage.left, what)?;
     let spare = setup.limits.exchanges_max - stage.count;

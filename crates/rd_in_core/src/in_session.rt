@@ -1,11 +1,14 @@
 ghost use Rattle.std.specs.Prelude.{◌≡◌, ◌≤◌, ◌+◌, ◌++◌, [], ◌∷◌, ℕ, List, true, IfOk, IfSome, OnOk, OnErr, is_some, is_none};
 ghost use Rattle.rd_base.specs.History.{History, Entry, is_well_formed};
 ghost use Rattle.rd_base.specs.Limits.{AreLimits};
-ghost use Rattle.rd_rules.specs.Sent.{final, sent, sent_past, step_sends, exchanges};
+ghost use Rattle.rd_rules.specs.Sent.{final, sent, sent_past, step_sends, exchanges, masked, agreed_rows};
 ghost use Rattle.rd_rules.specs.Wait.{wait, due_moment};
-ghost use Rattle.rd_in_core.specs.Seen.{Seen, IsAt, session_rules, entry_of};
+ghost use Rattle.rd_rules.specs.Wanted.{wanted};
+ghost use Rattle.rd_core.specs.Clocks.{entry_of};
+ghost use Rattle.rd_core.specs.Standing.{open_len};
+ghost use Rattle.rd_in_core.specs.Seen.{IsAt, session_rules};
 
-use rd_base::{Ending, Happening, Limits, NoMemory, Rows, Sends, Side, Which};
+use rd_base::{Ending, Happening, Limits, NoMemory, Rows, Sends, Side, Which, Words};
 use rd_core::{Session, Setup};
 use rd_dialect::Dialect;
 use std::alloc::Global;
@@ -19,14 +22,15 @@ pub struct InSession<D: Dialect> {
 }
 
 impl<D: Dialect> Model for InSession<D> {
-    ghost use Rattle.rd_in_core.specs.Seen.{Seen, seen_in};
-    ghost use Rattle.rd_core.specs.Standing.{IsIncoming};
+    ghost use Rattle.rd_base.specs.declared.values.Side.TheVariants.{Incoming};
+    ghost use Rattle.rd_core.specs.Standing.{IsOn};
+    ghost use Rattle.rd_core.specs.Faces.{Face, face_of};
 
-    ghost Value = { Seen D };
+    ghost Value = { Face D };
 
-    ghost view = { λ a. seen_in a.session };
+    ghost view = { λ a. face_of a.session };
 
-    ghost invariant = { λ a. IsIncoming a.session };
+    ghost invariant = { λ a. IsOn Incoming a.session };
 }
 
 impl<D: Dialect> InSession<D> {
@@ -82,6 +86,39 @@ impl<D: Dialect> InSession<D> {
         ensures { (h : History) → IsAt (session_rules (D.grammar self.now.dialect) self.now) self.now h → result ≡ exchanges (session_rules (D.grammar self.now.dialect) self.now) h }
     {
         self.session.exchanges()
+    }
+
+    /// How many places are masked in the replies of agreed exchanges.
+    pub fn masked(&self) -> u32
+        ensures { (h : History) → IsAt (session_rules (D.grammar self.now.dialect) self.now) self.now h → result ≡ masked (session_rules (D.grammar self.now.dialect) self.now) h }
+    {
+        self.session.masked()
+    }
+
+    /// The rows that the last step learnt. A step whose reply an unsolicited byte withholds learns none. After an
+    /// ending they are those of the step that ended the session.
+    pub fn agreed_rows(&self) -> &Rows
+        ensures { (h : History) → IsAt (session_rules (D.grammar self.now.dialect) self.now) self.now h → result.now ≡ agreed_rows (session_rules (D.grammar self.now.dialect) self.now) h }
+    {
+        self.session.agreed_rows()
+    }
+
+    /// The words of 16 to 128 bytes that are looked up in the requests which this happening releases, each once, in
+    /// the order of their first places, but those that the own rows show as they stand before the word's request;
+    /// the first 4,096. None where the happening releases nothing. It may be asked of before the step itself.
+    pub fn wanted(&self, happening: &Happening) -> Result<Words, NoMemory>
+        ensures { IfOk result (λ words. (h : History) → is_well_formed self.now.limits.copies (h ++ entry_of happening.now [] ∷ []) ≡ true
+            → IsAt (session_rules (D.grammar self.now.dialect) self.now) self.now h
+            → words ≡ wanted (session_rules (D.grammar self.now.dialect) self.now) h (entry_of happening.now [])) }
+    {
+        self.session.wanted(happening)
+    }
+
+    /// How many bytes the session keeps of its links: those past the last agreed exchange.
+    pub fn open_bytes(&self) -> usize
+        ensures { result ≡ open_len self.now.at.stage }
+    {
+        self.session.open_bytes()
     }
 
     /// The moment in milliseconds at which the session's wait ends, and what it waits for. None exactly

@@ -3,8 +3,9 @@ use Rattle.std.specs.Prelude.{ℕ, Bool, ◌&&◌, not, if◌then◌else◌, Lis
 use Rattle.std.specs.List.{flat_map, list_any}
 use Rattle.rd_base.specs.Swap.{is_row_word, shows}
 use Rattle.rd_base.specs.History.{History, Entry, Row}
-use Rattle.rd_rules.specs.Exchange.{Rules, reading, released, note, first_bytes}
+use Rattle.rd_rules.specs.Exchange.{Rules, Reading, reading, released, note, first_bytes}
 use Rattle.rd_rules.specs.Given.{Release, releases}
+use Rattle.rd_rules.specs.Step.{sent_before}
 use Rattle.rd_rules.specs.Sent.{acted}
 
 -- none of these rows shows the word
@@ -34,6 +35,10 @@ released_past r before now =
 -- the words of these requests, each once, the first 4,096
 abbrev pub words_of : Rules → List Release → List (List ℕ)
 words_of r rels = take 4096 (distinct (flat_map (unknown_words r) rels))
+
+-- those of a reading, past a request that was out before it
+abbrev pub words_read : Rules → List Row → Bool → Reading → List (List ℕ)
+words_read r own was_out now = words_of r (drop (sent_before was_out) (releases r own now.done now.out))
 
 -- what an entry behind this history asks
 abbrev pub wanted : Rules → History → Entry → List (List ℕ)

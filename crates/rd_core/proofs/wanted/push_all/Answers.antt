@@ -1,4 +1,4 @@
-use Rattle.std.proofs.Common.{◌≡◌, ◌≤◌, ℕ, Bool, List, [], ◌∷◌, ap, sym, ◌∙◌, arith, length}
+use Rattle.std.proofs.Common.{ℕ, Bool, List, [], ◌∷◌, ap, sym, ◌∙◌, arith}
 use Rattle.std.specs.Prelude.{◌&&◌, fold, filter, take}
 use Rattle.std.proofs.lemmas.List.{take_all}
 use Rattle.rd_base.specs.Swap.{is_row_word}

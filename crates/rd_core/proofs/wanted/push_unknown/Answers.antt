@@ -1,5 +1,5 @@
-use Rattle.std.proofs.Common.{◌≡◌, Bool, true, false, Option, Some, None, ap, sym, refl, ◌∙◌, not}
-use Rattle.std.specs.Prelude.{◌&&◌, is_some, find, option_map}
+use Rattle.std.proofs.Common.{◌≡◌, Bool, true, false, ap, sym, refl, ◌∙◌, not}
+use Rattle.std.specs.Prelude.{◌&&◌, is_some, find}
 use Rattle.rd_base.specs.Swap.{is_row_word, shows}
 use Rattle.rd_rules.specs.Wanted.{is_unknown}
 use Rattle.rd_core.proofs.Moves.{is_some-map}

@@ -1,8 +1,8 @@
-use Rattle.std.proofs.Common.{◌≡◌, ◌+◌, length, Option, None, ap, sym, ◌∙◌, arith}
+use Rattle.std.proofs.Common.{◌≡◌, ◌+◌, length, Option, ap, sym, ◌∙◌, arith}
 use Rattle.std.specs.Prelude.{option_map}
 use Rattle.rd_rules.specs.Exchange.{Ask, reading, out_list}
 use Rattle.rd_rules.specs.Given.{agreed_on}
-use Rattle.rd_rules.specs.Sent.{acted, exchanges}
+use Rattle.rd_rules.specs.Sent.{acted}
 use Rattle.rd_reading.specs.Seen.{rules_of, seen_request}
 use Rattle.rd_core.proofs.Taken.{agreed_in, agreed_out}
 use Rattle.rd_core.proofs.session.Session.exchanges.Goals as goal

@@ -1,4 +1,4 @@
-use Rattle.std.proofs.Common.{◌≡◌, ◌≤◌, ◌*◌, ap, sym, ◌∙◌, arith}
+use Rattle.std.proofs.Common.{◌≡◌, ◌≤◌, ◌*◌, ap, ◌∙◌, arith}
 use Rattle.rd_rules.specs.Sent.{acted, masked}
 use Rattle.rd_reading.specs.Seen.{rules_of}
 use Rattle.rd_reading.proofs.FewMasks.{few_masked}

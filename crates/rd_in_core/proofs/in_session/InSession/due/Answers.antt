@@ -1,12 +1,13 @@
 use Rattle.std.proofs.Common.{◌≡◌, subst, sym}
 use Rattle.std.specs.Prelude.{IfSome}
+use Rattle.rd_base.specs.declared.values.Side.TheVariants.{Incoming}
 use Rattle.rd_rules.specs.Exchange.{Rules}
 use Rattle.rd_rules.specs.Wait.{wait, due_moment}
-use Rattle.rd_in_core.proofs.Faces.{rules_in, at_in}
+use Rattle.rd_core.proofs.Faces.{rules_in, at_in}
 use Rattle.rd_in_core.proofs.in_session.InSession.due.Goals as goal
 
 pub returns-clause-due : goal.returns-clause-due
 returns-clause-due g c = λ h at.
     subst (λ (r : Rules). IfSome c.due.result (λ d. (d.0 ≡ due_moment r h) × (d.1 ≡ (wait r h).which)))
-    (sym (rules_in g.D.Dialect.grammar c.self.inside.session c.self.invariant c.args.self.now c.self.view_is))
-    (c.due.ensures.due h (at_in g.D.Dialect.grammar c.self.inside.session c.self.invariant c.args.self.now c.self.view_is h at))
+    (sym (rules_in Incoming g.D.Dialect.grammar c.self.inside.session c.self.invariant c.args.self.now c.self.view_is))
+    (c.due.ensures.due h (at_in Incoming g.D.Dialect.grammar c.self.inside.session c.self.invariant c.args.self.now c.self.view_is h at))
