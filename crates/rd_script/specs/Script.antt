@@ -8,9 +8,9 @@ use Rattle.hex.specs.Hex.{decode_of}
 use Rattle.rd_base.specs.History.{Entry, History, may_follow}
 use Rattle.rd_base.specs.declared.values.Link.{Link}
 use Rattle.rd_base.specs.declared.values.Side.{Side}
-use Rattle.rd_base.specs.declared.values.Side.TheVariants.{Incoming}
+use Rattle.rd_base.specs.declared.values.Side.TheVariants.{Incoming, Outgoing}
 use Rattle.rd_base.specs.declared.values.What.{What}
-use Rattle.rd_base.specs.declared.values.What.TheVariants.{Piece, End}
+use Rattle.rd_base.specs.declared.values.What.TheVariants.{Piece, End, ReadFail, WriteFail, Timer, Stop}
 
 -- what a script stands for: the side of its session, and what happened to it
 pub record ScriptState : Type 0 where
@@ -53,17 +53,27 @@ piece_of_words n (link ∷ []) = None
 piece_of_words n (link ∷ hex ∷ []) = option_and_then (λ l. option_map (λ bytes. Piece l bytes) (bytes_of_hex hex)) (link_of n link)
 piece_of_words n (link ∷ hex ∷ more ∷ others) = None
 
-abbrev pub end_of_words : ℕ → List (List ℕ) → Option What
-end_of_words n [] = None
-end_of_words n (link ∷ []) = option_map (λ l. End l) (link_of n link)
-end_of_words n (link ∷ more ∷ others) = None
+-- a link, where it is the only word
+abbrev pub only_link : ℕ → List (List ℕ) → Option Link
+only_link n [] = None
+only_link n (link ∷ []) = link_of n link
+only_link n (link ∷ more ∷ others) = None
+
+-- what happened, where no word is left
+abbrev pub if_alone : What → List (List ℕ) → Option What
+if_alone what [] = Some what
+if_alone what (more ∷ others) = None
 
 -- what happened, by the words behind a line's stamp; each kind of line is a case
 abbrev pub what_of : ℕ → List (List ℕ) → Option What
 what_of n [] = None
 what_of n (name ∷ words) =
     if bytes_eq name (codes "piece") then piece_of_words n words
-    else if bytes_eq name (codes "end") then end_of_words n words
+    else if bytes_eq name (codes "end") then option_map (λ l. End l) (only_link n words)
+    else if bytes_eq name (codes "readfail") then option_map (λ l. ReadFail l) (only_link n words)
+    else if bytes_eq name (codes "writefail") then option_map (λ l. WriteFail l) (only_link n words)
+    else if bytes_eq name (codes "timer") then if_alone Timer words
+    else if bytes_eq name (codes "stop") then if_alone Stop words
     else None
 
 abbrev pub with_stamp : Option ℕ → Option What → Option Entry
@@ -74,11 +84,17 @@ abbrev pub entry_of : ℕ → List (List ℕ) → Option Entry
 entry_of n [] = None
 entry_of n (stamp ∷ words) = with_stamp (number_of stamp) (what_of n words)
 
+abbrev pub side_named : List ℕ → Option Side
+side_named side =
+    if bytes_eq side (codes "incoming") then Some Incoming
+    else if bytes_eq side (codes "outgoing") then Some Outgoing
+    else None
+
 -- the side that the first line names
 abbrev pub side_of : List (List ℕ) → Option Side
 side_of [] = None
 side_of (name ∷ []) = None
-side_of (name ∷ side ∷ []) = if bytes_eq name (codes "side") && bytes_eq side (codes "incoming") then Some Incoming else None
+side_of (name ∷ side ∷ []) = if bytes_eq name (codes "side") then side_named side else None
 side_of (name ∷ side ∷ more ∷ others) = None
 
 -- an entry may stand behind these, where n is the number of copies

@@ -1,5 +1,5 @@
 -- What contracts see of happenings that were read.
-use Rattle.std.specs.Prelude.{ℕ, ◌≡◌, ◌<◌, Bool, true, false, List, [], map, slice_index_or, Option, Some, None}
+use Rattle.std.specs.Prelude.{ℕ, ◌≡◌, ◌<◌, Bool, false, List, [], map, slice_index_or, Option, Some, None}
 use Rattle.rd_base.specs.History.{Entry, History, is_over}
 use Rattle.rd_base.specs.declared.values.Link.{Link}
 use Rattle.rd_base.specs.declared.values.What.{What}
@@ -13,15 +13,6 @@ entry_without_rows happening = record { at = happening.at; what = happening.what
 abbrev pub entries_of : List Happening → History
 entries_of happenings = map entry_without_rows happenings
 
--- a piece or an end, which a link gave
-abbrev pub is_piece_or_end : What → Bool
-is_piece_or_end (Piece l bytes) = true
-is_piece_or_end (End l) = true
-is_piece_or_end (ReadFail l) = false
-is_piece_or_end (WriteFail l) = false
-is_piece_or_end Timer = false
-is_piece_or_end Stop = false
-
 -- the link that reads no more after this
 abbrev pub over_link : What → Option Link
 over_link (Piece l bytes) = None
@@ -34,8 +25,3 @@ over_link Stop = None
 -- of each of nine links a flag tells whether it is over
 pub record TellsOver (over : List Bool) (h : History) : Type 0 where
   pub tells : (l : ℕ) → l < 9 → slice_index_or over l false ≡ is_over l h
-
--- an entry of a link alone: a piece or an end, to which no rows are told
-pub record IsPieceOrEnd (e : Entry) : Type 0 where
-  pub kind : is_piece_or_end e.what ≡ true
-  pub alone : e.told ≡ []

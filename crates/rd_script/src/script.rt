@@ -1,8 +1,7 @@
 ghost use Rattle.std.specs.Prelude.{◌≡◌, ◌≤◌, ◌<◌, ℕ, [], true, length, slice_get, Some, IfOk, IfErr};
-ghost use Rattle.std.specs.List.{All};
 ghost use Rattle.rd_base.specs.History.{is_well_formed};
 ghost use Rattle.rd_script.specs.Script.{script_of, read_lines, parts_of};
-ghost use Rattle.rd_script.specs.Seen.{entry_without_rows, entries_of, IsPieceOrEnd};
+ghost use Rattle.rd_script.specs.Seen.{entry_without_rows, entries_of};
 
 use crate::cut::cut_at_byte;
 use crate::line::{read_happening, read_side};
@@ -79,7 +78,6 @@ pub fn read_script(alloc: Global, copies: u8, text: &[u8]) -> Result<Script, Scr
     ensures script { IfOk result (λ script. script_of copies text.now ≡ Ok script) }
     ensures bad_line { (number : ℕ) → result ≡ Err (ScriptRefusal.BadLine number) → script_of copies text.now ≡ Err number }
     ensures well_formed { IfOk result (λ script. is_well_formed copies script.entries ≡ true) }
-    ensures kinds { IfOk result (λ script. All IsPieceOrEnd script.entries) }
 {
     let Some((first, rest)) = cut_at_byte(text, b'\n') else {
         return Err(ScriptRefusal::BadLine(1));

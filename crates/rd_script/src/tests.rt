@@ -23,7 +23,9 @@ fn names_the_first_bad_line(rt: HostRuntime) -> Result<(), Fail> {
         (b"\n", 1),
         (b"side incoming", 1),
         (b"side incoming ", 1),
-        (b"side outgoing\n", 1),
+        (b"side outgoing\n", 0),
+        (b"side outgoing \n", 1),
+        (b"side sideways\n", 1),
         (b"side  incoming\n", 1),
         (b"Side incoming\n", 1),
         (b"side incoming\r\n", 1),
@@ -52,11 +54,61 @@ fn names_the_first_bad_line(rt: HostRuntime) -> Result<(), Fail> {
         (b"side incoming\n0 piece 3\n", 2),
         (b"side incoming\n0 piece 3 0a 0a\n", 2),
         (b"side incoming\n0 piece 3 0g\n", 2),
-        (b"side incoming\n0 timer\n", 2),
-        (b"side incoming\n0 stop\n", 2),
-        (b"side incoming\n0 readfail 0\n", 2),
-        (b"side incoming\n0 writefail 0\n", 2),
         (b"side incoming\n0 end 4\n0 end 5\n", 2),
+    ];
+    for (text, line) in cases {
+        assert_eq!(rt; bad_line(rt.alloc(), text)?, line, "{text:?}");
+    }
+    Ok(())
+}
+
+#[test]
+fn names_a_bad_fault(rt: HostRuntime) -> Result<(), Fail> {
+    let cases = [
+        (b"side incoming\n0 readfail 3\n".as_slice(), 0),
+        (b"side outgoing\n0 readfail 0\n", 0),
+        (b"side incoming\n0 readfail 4\n", 2),
+        (b"side incoming\n0 readfail 00\n", 2),
+        (b"side incoming\n0 readfail\n", 2),
+        (b"side incoming\n0 readfail \n", 2),
+        (b"side incoming\n0 readfail 0 0\n", 2),
+        (b"side incoming\n0 writefail 3\n", 0),
+        (b"side incoming\n0 writefail 4\n", 2),
+        (b"side incoming\n0 writefail\n", 2),
+        (b"side incoming\n0 writefail 0 00\n", 2),
+        (b"side incoming\n0 readfail 3\n0 readfail 3\n", 3),
+        (b"side incoming\n0 readfail 3\n0 end 3\n", 3),
+        (b"side incoming\n0 readfail 3\n0 piece 3 00\n", 3),
+        (b"side incoming\n0 end 3\n0 readfail 3\n", 3),
+        (b"side incoming\n0 end 3\n0 writefail 3\n", 0),
+        (b"side incoming\n0 readfail 3\n0 writefail 3\n", 0),
+        (
+            b"side incoming\n0 writefail 3\n0 writefail 3\n0 piece 3 00\n",
+            0,
+        ),
+    ];
+    for (text, line) in cases {
+        assert_eq!(rt; bad_line(rt.alloc(), text)?, line, "{text:?}");
+    }
+    Ok(())
+}
+
+#[test]
+fn names_a_bad_look_or_stop(rt: HostRuntime) -> Result<(), Fail> {
+    let cases = [
+        (b"side incoming\n0 timer\n".as_slice(), 0),
+        (b"side outgoing\n18446744073709551615 timer\n", 0),
+        (b"side incoming\n18446744073709551616 timer\n", 2),
+        (b"side incoming\n01 timer\n", 2),
+        (b"side incoming\n0 timer \n", 2),
+        (b"side incoming\n0 timer 0\n", 2),
+        (b"side incoming\n0 Timer\n", 2),
+        (b"side incoming\ntimer\n", 2),
+        (b"side incoming\n0 stop\n0 stop\n", 0),
+        (b"side incoming\n0 stop 3\n", 2),
+        (b"side incoming\n0 stops\n", 2),
+        (b"side incoming\n0 pause\n", 2),
+        (b"side incoming\n0 timer", 2),
     ];
     for (text, line) in cases {
         assert_eq!(rt; bad_line(rt.alloc(), text)?, line, "{text:?}");

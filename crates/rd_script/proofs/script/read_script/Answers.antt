@@ -5,7 +5,7 @@ use Rattle.rd_script.specs.Seen.{entries_of, entry_without_rows}
 use Rattle.std.proofs.lemmas.Result.{err_from_is_err_and}
 use Rattle.std.proofs.lemmas.List.{length-map}
 use Rattle.rd_script.proofs.Lines.{bad_lines}
-use Rattle.rd_script.proofs.Kept.{well_formed, kinds, few}
+use Rattle.rd_script.proofs.Kept.{well_formed, few}
 use Rattle.rd_script.proofs.script.read_script.Goals as goal
 
 pub returns-in_err-happenings-clause-bad_line : goal.returns-in_err-happenings-clause-bad_line
@@ -16,10 +16,6 @@ returns-in_err-happenings-clause-bad_line c =
 pub returns-clause-well_formed : goal.returns-clause-well_formed
 returns-clause-well_formed c =
     well_formed c.args.copies 2 (parts_of c.in-Some.rest.now) (entries_of c.in_ok-happenings.happenings.items) c.in_ok-happenings.ensures.happenings
-
-pub returns-clause-kinds : goal.returns-clause-kinds
-returns-clause-kinds c =
-    kinds c.args.copies 2 (parts_of c.in-Some.rest.now) (entries_of c.in_ok-happenings.happenings.items) c.in_ok-happenings.ensures.happenings
 
 pub invariant_of-result : goal.invariant_of-result
 invariant_of-result c =
