@@ -1,4 +1,5 @@
 mod Parts
 mod Numbers
+mod ToldRows
 mod Lines
 mod Kept

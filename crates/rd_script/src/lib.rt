@@ -6,8 +6,10 @@ mod line;
 mod printed;
 mod reading;
 mod script;
+mod step;
 #[cfg(test)]
 mod tests;
+mod told;
 mod words;
 
 pub use printed::{last_line, send_line};

@@ -1,6 +1,5 @@
-ghost use Rattle.std.specs.Prelude.{◌≡◌, ◌∷◌, [], ℕ, IfOk, option_map};
-ghost use Rattle.rd_script.specs.Script.{entry_of, what_of, piece_of_words, only_link, side_of, side_named, words_of};
-ghost use Rattle.rd_script.specs.Seen.{entry_without_rows};
+ghost use Rattle.std.specs.Prelude.{◌≡◌, ◌∷◌, [], ℕ, IfOk};
+ghost use Rattle.rd_script.specs.Script.{happening_of, what_of, piece_of_words, only_link, side_of, side_named, words_of};
 
 use crate::cut::{cut_at_byte, only_word};
 use crate::words::{read_hex, read_link, read_number};
@@ -34,7 +33,7 @@ fn side_named(side: &[u8]) -> Option<Side>
 
 /// The happening of a line.
 pub fn read_happening(alloc: Global, copies: u8, line: &[u8]) -> Result<Option<Happening>, NoMemory>
-    ensures { IfOk result (λ happening. option_map entry_without_rows happening ≡ entry_of copies (words_of line.now)) }
+    ensures { IfOk result (λ happening. happening ≡ happening_of copies (words_of line.now)) }
 {
     let Some((stamp, words)) = cut_at_byte(line, b' ') else {
         return Ok(None);
