@@ -3,3 +3,5 @@ mod Numbers
 mod ToldRows
 mod Lines
 mod Kept
+pub mod Entries
+pub mod LineNumbers
