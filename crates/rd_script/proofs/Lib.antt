@@ -3,5 +3,7 @@ mod Numbers
 mod ToldRows
 mod Lines
 mod Kept
+mod Sixteen
+mod Generated
 pub mod Entries
 pub mod LineNumbers

@@ -1,11 +1,11 @@
 -- The number of a bad line is no larger than the text lets it be.
-use Rattle.std.proofs.Common.{◌≡◌, ℕ, ◌+◌, ◌-◌, ◌^◌, ◌≤◌, ◌<◌, Bool, true, false, List, [], ◌∷◌, length, Option, Some, None, Result, Ok, Err, refl, sym, ap, ◌∙◌, arith}
+use Rattle.std.proofs.Common.{◌≡◌, ℕ, ◌+◌, ◌-◌, ◌^◌, ◌≤◌, ◌<◌, Bool, true, false, List, [], ◌∷◌, length, Option, Some, None, Result, Ok, Err, refl, ap, arith}
 use Rattle.std.specs.Prelude.{if◌then◌else◌, ◌==◌, min, IsErrAnd}
 use Rattle.std.proofs.lemmas.List.Splits.{length-slice_split}
 use Rattle.std.proofs.lemmas.List.Sums.{count_by-le-length}
 use Rattle.rd_base.specs.History.{History}
 use Rattle.rd_base.specs.declared.values.Side.{Side}
-use Rattle.rd_script.specs.Script.{ScriptState, LinesRead, nothing_read, script_of, read_parts, read_lines, with_side, with_entries, with_line, go_on, at_end, side_of, words_of, parts_of}
+use Rattle.rd_script.specs.Script.{ScriptState, LinesRead, nothing_read, script_of, read_parts, read_lines, with_side, with_entries, with_line, go_on, side_of, words_of, parts_of}
 
 -- a bad line has at most this number
 abbrev Within : {R : Type 0} → ℕ → Result R ℕ → Type 0

@@ -2,6 +2,7 @@
 #![tactic(auto)]
 
 mod cut;
+mod generator;
 mod line;
 mod printed;
 mod reading;
@@ -12,5 +13,6 @@ mod tests;
 mod told;
 mod words;
 
+pub use generator::generate;
 pub use printed::{last_line, send_line};
 pub use script::{Script, ScriptRefusal, read_script};

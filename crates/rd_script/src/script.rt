@@ -33,6 +33,18 @@ impl Model for Script {
 }
 
 impl Script {
+    /// The script of these happenings.
+    pub(crate) fn new(alloc: Global, side: Side, steps: Vec<Step>) -> Script
+        requires { length steps.items ≤ 1048576 }
+        ensures { result ≡ record { side = side; entries = entries_in steps.items } }
+    {
+        Script {
+            side,
+            steps,
+            no_rows: Rows::new(alloc),
+        }
+    }
+
     pub fn side(&self) -> Side
         ensures { result ≡ self.now.side }
     {
@@ -100,11 +112,7 @@ pub fn read_script(alloc: Global, copies: u8, text: &[u8]) -> Result<Script, Scr
         return Err(ScriptRefusal::BadLine(1));
     };
     let steps = read_lines(alloc, copies, side, rest)?;
-    Ok(Script {
-        side,
-        steps,
-        no_rows: Rows::new(alloc),
-    })
+    Ok(Script::new(alloc, side, steps))
 }
 
 /// The happenings of the lines from the second on.

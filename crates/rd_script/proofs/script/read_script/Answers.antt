@@ -1,9 +1,10 @@
-use Rattle.std.proofs.Common.{◌≡◌, ◌≤◌, ◌^◌, ◌-◌, Err, length, ap, arith}
+use Rattle.std.proofs.Common.{◌≡◌, ◌≤◌, ◌^◌, ◌-◌, Err, true, length, sym, ap, subst, arith}
 use Rattle.std.specs.Prelude.{min}
 use Rattle.std.proofs.lemmas.List.{length-map}
 use Rattle.std.proofs.lemmas.Result.{err_from_is_err_and}
+use Rattle.rd_base.specs.History.{is_well_formed}
 use Rattle.rd_script.specs.declared.script.ScriptRefusal.TheVariants.{BadLine}
-use Rattle.rd_script.specs.Script.{parts_of}
+use Rattle.rd_script.specs.Script.{ScriptState, parts_of}
 use Rattle.rd_script.specs.Seen.{entries_in, entry_in}
 use Rattle.rd_script.proofs.Lines.{bad_script}
 use Rattle.rd_script.proofs.Kept.{well_formed, few}
@@ -16,12 +17,11 @@ returns-in_err-steps-clause-bad_line c =
 
 pub returns-clause-well_formed : goal.returns-clause-well_formed
 returns-clause-well_formed c =
-    well_formed c.args.copies c.in-Some-read_side.side 2 (parts_of c.in-Some.rest.now) (entries_in c.in_ok-steps.steps.items) c.in_ok-steps.ensures.steps
+    subst (λ (s : ScriptState). is_well_formed c.args.copies s.entries ≡ true) (sym c.new.ensures) (well_formed c.args.copies c.in-Some-read_side.side 2 (parts_of c.in-Some.rest.now) (entries_in c.in_ok-steps.steps.items) c.in_ok-steps.ensures.steps)
 
-pub invariant_of-result : goal.invariant_of-result
-invariant_of-result c =
+pub new-requires : goal.new-requires
+new-requires c =
     let items = c.in_ok-steps.steps.items in
     let most : length (entries_in items) ≤ 1048576 = few c.args.copies c.in-Some-read_side.side 2 (parts_of c.in-Some.rest.now) (entries_in items) c.in_ok-steps.ensures.steps in
     let same = length-map items entry_in in
-    let here : length items ≤ 1048576 = omega arith in
-    (here, ap length c.new.ensures)
+    omega arith
