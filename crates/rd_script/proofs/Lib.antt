@@ -1,4 +1,9 @@
 mod Parts
 mod Numbers
+mod ToldRows
 mod Lines
 mod Kept
+mod Sixteen
+mod Generated
+pub mod Entries
+pub mod LineNumbers

@@ -1,3 +1,4 @@
 pub mod Script
 pub mod Seen
 pub mod Printed
+pub mod Generator

@@ -1,21 +1,28 @@
 -- The language of scripts: what a text stands for, or which of its lines is the first bad one.
-use Rattle.std.specs.Prelude.{ℕ, ◌+◌, ◌^◌, ◌==◌, ◌&&◌, ◌||◌, not, nat_lt, nat_le, Bool, false, if◌then◌else◌, List, [], ◌∷◌, ◌++◌, length, codes, bytes_eq, Option, Some, None, option_map, option_and_then, Result, Ok, Err}
+use Rattle.std.specs.Prelude.{ℕ, zero, suc, ◌+◌, ◌-◌, ◌^◌, ◌==◌, ◌&&◌, ◌||◌, not, nat_lt, nat_le, Bool, false, if◌then◌else◌, List, [], ◌∷◌, ◌++◌, length, codes, bytes_eq, Option, Some, None, option_map, option_and_then, Result, Ok, Err}
 use Rattle.std.specs.List.{slice_split, list_all}
 use Rattle.std.specs.Result.{result_ok}
 use Rattle.std.specs.Char.{is_ascii_digit}
 use Rattle.std.specs.Str.Parse.{digits_value}
 use Rattle.hex.specs.Hex.{decode_of}
-use Rattle.rd_base.specs.History.{Entry, History, may_follow}
+use Rattle.rd_base.specs.History.{Row, Entry, History, may_follow}
+use Rattle.rd_base.specs.Swap.{is_row_word}
+use Rattle.rd_base.specs.declared.values.Happening.{Happening}
 use Rattle.rd_base.specs.declared.values.Link.{Link}
 use Rattle.rd_base.specs.declared.values.Side.{Side}
-use Rattle.rd_base.specs.declared.values.Side.TheVariants.{Incoming}
+use Rattle.rd_base.specs.declared.values.Side.TheVariants.{Incoming, Outgoing}
 use Rattle.rd_base.specs.declared.values.What.{What}
-use Rattle.rd_base.specs.declared.values.What.TheVariants.{Piece, End}
+use Rattle.rd_base.specs.declared.values.What.TheVariants.{Piece, End, ReadFail, WriteFail, Timer, Stop}
 
 -- what a script stands for: the side of its session, and what happened to it
 pub record ScriptState : Type 0 where
   pub side : Side
   pub entries : History
+
+-- what lines come to: entries, and the rows that are told to the next one
+pub record LinesRead : Type 0 where
+  pub entries : History
+  pub told : List Row
 
 -- the parts that line feeds end, and the part behind the last one
 abbrev pub parts_of : List ℕ → List (List ℕ)
@@ -53,63 +60,127 @@ piece_of_words n (link ∷ []) = None
 piece_of_words n (link ∷ hex ∷ []) = option_and_then (λ l. option_map (λ bytes. Piece l bytes) (bytes_of_hex hex)) (link_of n link)
 piece_of_words n (link ∷ hex ∷ more ∷ others) = None
 
-abbrev pub end_of_words : ℕ → List (List ℕ) → Option What
-end_of_words n [] = None
-end_of_words n (link ∷ []) = option_map (λ l. End l) (link_of n link)
-end_of_words n (link ∷ more ∷ others) = None
+-- a link, where it is the only word
+abbrev pub only_link : ℕ → List (List ℕ) → Option Link
+only_link n [] = None
+only_link n (link ∷ []) = link_of n link
+only_link n (link ∷ more ∷ others) = None
+
+-- what happened, where no word is left
+abbrev pub if_alone : What → List (List ℕ) → Option What
+if_alone what [] = Some what
+if_alone what (more ∷ others) = None
 
 -- what happened, by the words behind a line's stamp; each kind of line is a case
 abbrev pub what_of : ℕ → List (List ℕ) → Option What
 what_of n [] = None
 what_of n (name ∷ words) =
     if bytes_eq name (codes "piece") then piece_of_words n words
-    else if bytes_eq name (codes "end") then end_of_words n words
+    else if bytes_eq name (codes "end") then option_map (λ l. End l) (only_link n words)
+    else if bytes_eq name (codes "readfail") then option_map (λ l. ReadFail l) (only_link n words)
+    else if bytes_eq name (codes "writefail") then option_map (λ l. WriteFail l) (only_link n words)
+    else if bytes_eq name (codes "timer") then if_alone Timer words
+    else if bytes_eq name (codes "stop") then if_alone Stop words
     else None
 
-abbrev pub with_stamp : Option ℕ → Option What → Option Entry
-with_stamp stamp what = option_and_then (λ at. option_map (λ w. record { at = at; what = w; told = [] }) what) stamp
+abbrev pub with_stamp : Option ℕ → Option What → Option Happening
+with_stamp stamp what = option_and_then (λ at. option_map (λ w. record { at = at; what = w }) what) stamp
 
--- the entry of a line: a stamp, and what happened
-abbrev pub entry_of : ℕ → List (List ℕ) → Option Entry
-entry_of n [] = None
-entry_of n (stamp ∷ words) = with_stamp (number_of stamp) (what_of n words)
+-- the happening of a line: a stamp, and what happened
+abbrev pub happening_of : ℕ → List (List ℕ) → Option Happening
+happening_of n [] = None
+happening_of n (stamp ∷ words) = with_stamp (number_of stamp) (what_of n words)
+
+-- the word of 16 to 128 word bytes that hexadecimal digits stand for
+abbrev pub row_word_of : List ℕ → Option (List ℕ)
+row_word_of hex = option_and_then (λ word. if is_row_word word then Some word else None) (bytes_of_hex hex)
+
+-- a row of as many words
+abbrev pub row_of_words : ℕ → List (List ℕ) → Option Row
+row_of_words zero [] = Some []
+row_of_words zero (hex ∷ more) = None
+row_of_words (suc n) [] = None
+row_of_words (suc n) (hex ∷ more) = option_and_then (λ word. option_map (λ row. word ∷ row) (row_of_words n more)) (row_word_of hex)
+
+-- a line that tells a row to the next happening
+abbrev pub is_told : List (List ℕ) → Bool
+is_told [] = false
+is_told (name ∷ words) = bytes_eq name (codes "told")
+
+-- the row that a line tells: a word for each of n copies, on the incoming side alone
+abbrev pub told_row : ℕ → Side → List (List ℕ) → Option Row
+told_row n Incoming [] = None
+told_row n Incoming (name ∷ words) = row_of_words n words
+told_row n Outgoing words = None
+
+abbrev pub side_named : List ℕ → Option Side
+side_named side =
+    if bytes_eq side (codes "incoming") then Some Incoming
+    else if bytes_eq side (codes "outgoing") then Some Outgoing
+    else None
 
 -- the side that the first line names
 abbrev pub side_of : List (List ℕ) → Option Side
 side_of [] = None
 side_of (name ∷ []) = None
-side_of (name ∷ side ∷ []) = if bytes_eq name (codes "side") && bytes_eq side (codes "incoming") then Some Incoming else None
+side_of (name ∷ side ∷ []) = if bytes_eq name (codes "side") then side_named side else None
 side_of (name ∷ side ∷ more ∷ others) = None
 
--- an entry may stand behind these, where n is the number of copies
-abbrev pub may_stand : ℕ → History → Entry → Bool
-may_stand n seen e = nat_lt (length seen) 1048576 && may_follow n seen e.what
+-- this may stand behind these entries, where n is the number of copies
+abbrev pub may_stand : ℕ → History → What → Bool
+may_stand n seen what = nat_lt (length seen) 1048576 && may_follow n seen what
 
-abbrev pub admitted : ℕ → History → Option Entry → Option Entry
+abbrev pub admitted : ℕ → History → Option Happening → Option Happening
 admitted n seen None = None
-admitted n seen (Some e) = if may_stand n seen e then Some e else None
+admitted n seen (Some h) = if may_stand n seen h.what then Some h else None
 
-abbrev pub with_entry : Option Entry → ℕ → (Entry → Result History ℕ) → Result History ℕ
-with_entry None number go = Err number
-with_entry (Some e) number go = go e
+-- a happening with the rows told to it
+abbrev pub entry_of : Happening → List Row → Entry
+entry_of happening told = record { at = happening.at; what = happening.what; told = told }
 
--- the entries of the lines from this number on, behind these, or the number of the first bad line.
+abbrev pub with_row : LinesRead → Row → LinesRead
+with_row read row = record { entries = read.entries; told = read.told ++ row ∷ [] }
+
+abbrev pub with_happening : LinesRead → Happening → LinesRead
+with_happening read happening = record { entries = read.entries ++ entry_of happening read.told ∷ []; told = [] }
+
+-- what lines come to with one line more; None where it is bad
+abbrev pub with_line : ℕ → Side → LinesRead → List (List ℕ) → Option LinesRead
+with_line n side read words =
+    if is_told words then option_map (with_row read) (told_row n side words)
+    else option_map (with_happening read) (admitted n read.entries (happening_of n words))
+
+-- a row that no happening follows makes its line bad, and the first of these lines is named
+abbrev pub at_end : ℕ → LinesRead → Result History ℕ
+at_end number read = if length read.told == 0 then Ok read.entries else Err (number - length read.told)
+
+abbrev pub go_on : Option LinesRead → ℕ → (LinesRead → Result History ℕ) → Result History ℕ
+go_on None number go = Err number
+go_on (Some read) number go = go read
+
+-- the entries of the lines from this number on, behind those that were read, or the number of the first bad line.
 -- The last part stands behind the last line feed: it is a bad line where it has bytes
-abbrev pub read_lines : ℕ → ℕ → History → List (List ℕ) → Result History ℕ
-read_lines n number seen [] = Err number
-read_lines n number seen (rest ∷ []) = if length rest == 0 then Ok seen else Err number
-read_lines n number seen (line ∷ next ∷ more) =
-    with_entry (admitted n seen (entry_of n (words_of line))) number (λ e. read_lines n (number + 1) (seen ++ e ∷ []) (next ∷ more))
+abbrev pub read_lines : ℕ → Side → ℕ → LinesRead → List (List ℕ) → Result History ℕ
+read_lines n side number read [] = Err number
+read_lines n side number read (rest ∷ []) = if length rest == 0 then at_end number read else Err number
+read_lines n side number read (line ∷ next ∷ more) =
+    go_on (with_line n side read (words_of line)) number (λ r. read_lines n side (number + 1) r (next ∷ more))
 
-abbrev pub with_side : Option Side → Result History ℕ → Result ScriptState ℕ
-with_side None entries = Err 1
-with_side (Some side) (Err number) = Err number
-with_side (Some side) (Ok entries) = Ok (record { side = side; entries = entries })
+abbrev pub nothing_read : LinesRead
+nothing_read = record { entries = []; told = [] }
+
+abbrev pub with_entries : Side → Result History ℕ → Result ScriptState ℕ
+with_entries side (Err number) = Err number
+with_entries side (Ok entries) = Ok (record { side = side; entries = entries })
+
+abbrev pub with_side : ℕ → Option Side → List (List ℕ) → Result ScriptState ℕ
+with_side n None parts = Err 1
+with_side n (Some side) parts = with_entries side (read_lines n side 2 nothing_read parts)
 
 abbrev pub read_parts : ℕ → List (List ℕ) → Result ScriptState ℕ
 read_parts n [] = Err 1
 read_parts n (first ∷ []) = Err 1
-read_parts n (first ∷ next ∷ more) = with_side (side_of (words_of first)) (read_lines n 2 [] (next ∷ more))
+read_parts n (first ∷ next ∷ more) = with_side n (side_of (words_of first)) (next ∷ more)
 
 -- what a text stands for among n copies, or the number of its first bad line, from 1
 abbrev pub script_of : ℕ → List ℕ → Result ScriptState ℕ

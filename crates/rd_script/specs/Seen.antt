@@ -1,26 +1,28 @@
 -- What contracts see of happenings that were read.
-use Rattle.std.specs.Prelude.{ℕ, ◌≡◌, ◌<◌, Bool, true, false, List, [], map, slice_index_or, Option, Some, None}
-use Rattle.rd_base.specs.History.{Entry, History, is_over}
+use Rattle.std.specs.Prelude.{ℕ, ◌≡◌, ◌<◌, Bool, false, List, [], map, slice_index_or, Option, Some, None, Box}
+use Rattle.rd_base.specs.History.{Row, Entry, History, is_over}
+use Rattle.rd_base.specs.declared.values.Happening.{Happening}
 use Rattle.rd_base.specs.declared.values.Link.{Link}
 use Rattle.rd_base.specs.declared.values.What.{What}
 use Rattle.rd_base.specs.declared.values.What.TheVariants.{Piece, End, ReadFail, WriteFail, Timer, Stop}
-use Rattle.rd_base.specs.declared.values.Happening.{Happening}
+use Rattle.rd_script.specs.Script.{entry_of}
+use Rattle.rd_script.specs.declared.step.Step.{Step}
 
--- a happening to whose step no rows are told
-abbrev pub entry_without_rows : Happening → Entry
-entry_without_rows happening = record { at = happening.at; what = happening.what; told = [] }
+-- the rows that are kept; none where there is no list of them
+abbrev pub rows_in : {A : Type 0} → Option (Box (List Row) A) → List Row
+rows_in (Some rows) = rows.value
+rows_in None = []
 
-abbrev pub entries_of : List Happening → History
-entries_of happenings = map entry_without_rows happenings
+-- a happening as it is kept, with the rows told to it
+abbrev pub entry_in : Step → Entry
+entry_in step = entry_of step.happening (rows_in step.told)
 
--- a piece or an end, which a link gave
-abbrev pub is_piece_or_end : What → Bool
-is_piece_or_end (Piece l bytes) = true
-is_piece_or_end (End l) = true
-is_piece_or_end (ReadFail l) = false
-is_piece_or_end (WriteFail l) = false
-is_piece_or_end Timer = false
-is_piece_or_end Stop = false
+abbrev pub entries_in : List Step → History
+entries_in steps = map entry_in steps
+
+-- the happening of an entry, without the rows told to it
+abbrev pub happening_in : Entry → Happening
+happening_in e = record { at = e.at; what = e.what }
 
 -- the link that reads no more after this
 abbrev pub over_link : What → Option Link
@@ -34,8 +36,3 @@ over_link Stop = None
 -- of each of nine links a flag tells whether it is over
 pub record TellsOver (over : List Bool) (h : History) : Type 0 where
   pub tells : (l : ℕ) → l < 9 → slice_index_or over l false ≡ is_over l h
-
--- an entry of a link alone: a piece or an end, to which no rows are told
-pub record IsPieceOrEnd (e : Entry) : Type 0 where
-  pub kind : is_piece_or_end e.what ≡ true
-  pub alone : e.told ≡ []

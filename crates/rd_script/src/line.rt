@@ -1,10 +1,9 @@
-ghost use Rattle.std.specs.Prelude.{◌≡◌, IfOk, option_map};
-ghost use Rattle.rd_script.specs.Script.{entry_of, what_of, piece_of_words, end_of_words, side_of, words_of};
-ghost use Rattle.rd_script.specs.Seen.{entry_without_rows};
+ghost use Rattle.std.specs.Prelude.{◌≡◌, ◌∷◌, [], ℕ, IfOk};
+ghost use Rattle.rd_script.specs.Script.{happening_of, what_of, piece_of_words, only_link, side_of, side_named, words_of};
 
 use crate::cut::{cut_at_byte, only_word};
 use crate::words::{read_hex, read_link, read_number};
-use rd_base::{Happening, NoMemory, Side, What};
+use rd_base::{Happening, Link, NoMemory, Side, What};
 use std::alloc::Global;
 
 /// The side that the first line names.
@@ -13,8 +12,20 @@ pub fn read_side(line: &[u8]) -> Option<Side>
 {
     let (name, rest) = cut_at_byte(line, b' ')?;
     let side = only_word(rest)?;
-    if name == b"side".as_slice() && side == b"incoming".as_slice() {
+    if name == b"side".as_slice() {
+        side_named(side)
+    } else {
+        None
+    }
+}
+
+fn side_named(side: &[u8]) -> Option<Side>
+    ensures { result ≡ side_named side.now }
+{
+    if side == b"incoming".as_slice() {
         Some(Side::Incoming)
+    } else if side == b"outgoing".as_slice() {
+        Some(Side::Outgoing)
     } else {
         None
     }
@@ -22,7 +33,7 @@ pub fn read_side(line: &[u8]) -> Option<Side>
 
 /// The happening of a line.
 pub fn read_happening(alloc: Global, copies: u8, line: &[u8]) -> Result<Option<Happening>, NoMemory>
-    ensures { IfOk result (λ happening. option_map entry_without_rows happening ≡ entry_of copies (words_of line.now)) }
+    ensures { IfOk result (λ happening. happening ≡ happening_of copies (words_of line.now)) }
 {
     let Some((stamp, words)) = cut_at_byte(line, b' ') else {
         return Ok(None);
@@ -38,15 +49,44 @@ pub fn read_happening(alloc: Global, copies: u8, line: &[u8]) -> Result<Option<H
 fn read_what(alloc: Global, copies: u8, words: &[u8]) -> Result<Option<What>, NoMemory>
     ensures { IfOk result (λ what. what ≡ what_of copies (words_of words.now)) }
 {
-    let Some((name, rest)) = cut_at_byte(words, b' ') else {
-        return Ok(None);
-    };
+    match cut_at_byte(words, b' ') {
+        Some((name, rest)) => read_of_link(alloc, copies, name, rest),
+        None => Ok(read_alone(words)),
+    }
+}
+
+/// What happened to a link, by its name and the words behind it.
+fn read_of_link(
+    alloc: Global,
+    copies: u8,
+    name: &[u8],
+    words: &[u8],
+) -> Result<Option<What>, NoMemory>
+    ensures { IfOk result (λ what. what ≡ what_of copies (name.now ∷ words_of words.now)) }
+{
     if name == b"piece".as_slice() {
-        read_piece(alloc, copies, rest)
+        read_piece(alloc, copies, words)
     } else if name == b"end".as_slice() {
-        Ok(read_end(copies, rest))
+        Ok(only_link(copies, words).map(|link| What::End(link)))
+    } else if name == b"readfail".as_slice() {
+        Ok(only_link(copies, words).map(|link| What::ReadFail(link)))
+    } else if name == b"writefail".as_slice() {
+        Ok(only_link(copies, words).map(|link| What::WriteFail(link)))
     } else {
         Ok(None)
+    }
+}
+
+/// What happened to no link, by its name.
+fn read_alone(name: &[u8]) -> Option<What>
+    ensures { (copies : ℕ) → result ≡ what_of copies (name.now ∷ []) }
+{
+    if name == b"timer".as_slice() {
+        Some(What::Timer)
+    } else if name == b"stop".as_slice() {
+        Some(What::Stop)
+    } else {
+        None
     }
 }
 
@@ -67,9 +107,9 @@ fn read_piece(alloc: Global, copies: u8, words: &[u8]) -> Result<Option<What>, N
     Ok(bytes.map(|bytes| What::Piece(link, bytes)))
 }
 
-/// An end, by the words behind its name: a link.
-fn read_end(copies: u8, words: &[u8]) -> Option<What>
-    ensures { result ≡ end_of_words copies (words_of words.now) }
+/// The link that is the only word.
+fn only_link(copies: u8, words: &[u8]) -> Option<Link>
+    ensures { result ≡ only_link copies (words_of words.now) }
 {
-    Some(What::End(read_link(copies, only_word(words)?)?))
+    read_link(copies, only_word(words)?)
 }

@@ -1,61 +1,68 @@
-ghost use Rattle.std.specs.Prelude.{◌≡◌, ◌≤◌, ◌++◌, [], ◌∷◌, ◌&&◌, not, nat_le, true, length, OnOk, OnErr};
+ghost use Rattle.std.specs.Prelude.{◌≡◌, ◌≤◌, ◌++◌, [], ◌∷◌, ◌&&◌, not, nat_le, true, length, IfOk, OnOk, OnErr};
 ghost use Rattle.rd_base.specs.History.{may_follow, is_over};
-ghost use Rattle.rd_script.specs.Script.{may_stand};
-ghost use Rattle.rd_script.specs.Seen.{entry_without_rows, entries_of, over_link};
+ghost use Rattle.rd_script.specs.Script.{may_stand, nothing_read, with_happening, with_row};
+ghost use Rattle.rd_script.specs.Seen.{entries_in, rows_in, over_link};
 
-use rd_base::{Happening, Link, NoMemory, What};
+use crate::step::Step;
+use rd_base::{Happening, Link, NoMemory, Row, Rows, What};
 use std::alloc::Global;
 use std::marker::Model;
 
 /// The most happenings of a script.
 const MOST_HAPPENINGS: usize = 1_048_576;
 
-/// The happenings that were read so far, and of each link whether it is over.
+/// What was read so far: the happenings, the rows told to the next one, and of each link whether it is over.
 #[derive(Drop)]
 pub struct Reading {
-    happenings: Vec<Happening>,
+    steps: Vec<Step>,
+    told: Option<Box<Rows>>,
     over: [bool; 9],
 }
 
 impl Model for Reading {
-    ghost use Rattle.rd_base.specs.History.{History};
-    ghost use Rattle.rd_script.specs.Seen.{entries_of, TellsOver};
+    ghost use Rattle.rd_script.specs.Script.{LinesRead};
+    ghost use Rattle.rd_script.specs.Seen.{entries_in, rows_in, TellsOver};
 
-    ghost Value = { History };
+    ghost Value = { LinesRead };
 
-    ghost view = { λ r. entries_of r.happenings.items };
+    ghost view = { λ r. record { entries = entries_in r.steps.items; told = rows_in r.told } };
 
-    ghost invariant = { λ r. TellsOver r.over (entries_of r.happenings.items) };
+    ghost invariant = { λ r. TellsOver r.over (entries_in r.steps.items) };
 }
 
 impl Reading {
     /// Nothing was read.
     pub fn new(alloc: Global) -> Reading
-        ensures { result ≡ [] }
+        ensures { result ≡ nothing_read }
     {
         Reading {
-            happenings: Vec::new(alloc),
+            steps: Vec::new(alloc),
+            told: None,
             over: [false; 9],
         }
     }
 
-    pub fn len(&self) -> usize
-        ensures { result ≡ length self.now }
+    /// The number of rows told to the next happening.
+    pub fn waiting(&self) -> usize
+        ensures { result ≡ length self.now.told }
     {
-        self.happenings.len()
+        match &self.told {
+            Some(rows) => rows.len(),
+            None => 0,
+        }
     }
 
     /// Whether this may stand behind what was read.
-    pub fn may_stand(&self, copies: u8, happening: &Happening) -> bool
+    pub fn may_stand(&self, copies: u8, what: &What) -> bool
         requires { copies ≤ 8 }
-        ensures { result ≡ may_stand copies self.now (entry_without_rows happening.now) }
+        ensures { result ≡ may_stand copies self.now.entries what.now }
     {
-        self.len() < MOST_HAPPENINGS && self.may_follow(copies, &happening.what)
+        self.steps.len() < MOST_HAPPENINGS && self.may_follow(copies, what)
     }
 
     fn may_follow(&self, copies: u8, what: &What) -> bool
         requires { copies ≤ 8 }
-        ensures { result ≡ may_follow copies self.now what.now }
+        ensures { result ≡ may_follow copies self.now.entries what.now }
     {
         match what {
             What::Piece(link, bytes) => {
@@ -72,34 +79,60 @@ impl Reading {
     /// Whether the link is there and not over.
     fn reads(&self, copies: u8, link: Link) -> bool
         requires { copies ≤ 8 }
-        ensures { result ≡ (nat_le link.0 copies && not (is_over link.0 self.now)) }
+        ensures { result ≡ (nat_le link.0 copies && not (is_over link.0 self.now.entries)) }
     {
         link.0 <= copies && !self.over[link.0 as usize]
     }
 
-    /// Appends a happening.
+    /// Appends a happening, with the rows told to it.
     pub fn push(&mut self, copies: u8, happening: Happening) -> Result<(), NoMemory>
         requires copies { copies ≤ 8 }
-        requires stands { may_follow copies self.old happening.what ≡ true }
-        ensures ok { OnOk result (self.new ≡ self.old ++ entry_without_rows happening ∷ []) }
+        requires stands { may_follow copies self.old.entries happening.what ≡ true }
+        ensures ok { OnOk result (self.new ≡ with_happening self.old happening) }
         ensures err { OnErr result (self.new ≡ self.old) }
     {
-        let over = over_link(&happening.what);
-        match self.happenings.push(happening) {
+        match self.steps.reserve(1) {
             Ok(()) => (),
             Err(_) => return Err(NoMemory),
         }
+        let over = over_link(&happening.what);
+        let told = self.told.take();
+        self.steps.push_reserved(Step { happening, told });
         if let Some(link) = over {
             self.over[link.0 as usize] = true;
         }
         Ok(())
     }
 
-    /// The happenings alone.
-    pub fn into_happenings(self) -> Vec<Happening>
-        ensures { entries_of result.items ≡ self }
+    /// Keeps a row for the next happening.
+    pub fn tell(&mut self, alloc: Global, row: &Row) -> Result<(), NoMemory>
+        ensures ok { OnOk result (self.new ≡ with_row self.old row.now) }
+        ensures err { OnErr result (self.new ≡ self.old) }
     {
-        self.happenings
+        let mut rows = match self.told.take() {
+            Some(rows) => rows,
+            None => boxed_rows(alloc)?,
+        };
+        let pushed = rows.push(row);
+        self.told = Some(rows);
+        pushed
+    }
+
+    /// The happenings, each with the rows told to it.
+    pub fn into_steps(self) -> Vec<Step>
+        ensures { entries_in result.items ≡ self.entries }
+    {
+        self.steps
+    }
+}
+
+/// No rows yet.
+fn boxed_rows(alloc: Global) -> Result<Box<Rows>, NoMemory>
+    ensures { IfOk result (λ rows. rows.value ≡ []) }
+{
+    match Box::new(alloc, Rows::new(alloc)) {
+        Ok(rows) => Ok(rows),
+        Err(_) => Err(NoMemory),
     }
 }
 
