@@ -8,12 +8,12 @@ use Rattle.rddr.specs.Outcome.{Outcome, file_outcome, script_outcome, too_long}
 abbrev by_length : List ℕ → Bool → Outcome
 by_length text long = if long then too_long else script_outcome (script_of 3 text)
 
-pub fitting : (text : List ℕ) → length text ≤ 65536 → file_outcome (Some text) ≡ script_outcome (script_of 3 text)
+pub fitting : (text : List ℕ) → length text ≤ 67108864 → file_outcome (Some text) ≡ script_outcome (script_of 3 text)
 fitting text fits =
-    let test : nat_lt 65536 (length text) ≡ false = grind (arith, nat_tests) in
+    let test : nat_lt 67108864 (length text) ≡ false = grind (arith, nat_tests) in
     ap (by_length text) test
 
-pub overlong : (text : List ℕ) → 65536 < length text → file_outcome (Some text) ≡ too_long
+pub overlong : (text : List ℕ) → 67108864 < length text → file_outcome (Some text) ≡ too_long
 overlong text long =
-    let test : nat_lt 65536 (length text) ≡ true = grind (arith, nat_tests) in
+    let test : nat_lt 67108864 (length text) ≡ true = grind (arith, nat_tests) in
     ap (by_length text) test

@@ -1,20 +1,17 @@
 -- The rules that a session goes by.
-use Rattle.std.proofs.Common.{◌≡◌, sym, ap, ◌∙◌}
-use Rattle.rd_base.specs.declared.values.Limits.{Limits}
-use Rattle.rd_base.specs.declared.values.Side.{Side}
-use Rattle.rd_base.specs.declared.values.Side.TheVariants.{Incoming}
+use Rattle.std.proofs.Common.{◌≡◌, ap, ◌∙◌}
 use Rattle.rd_dialect.specs.Grammar.{Grammar}
-use Rattle.rd_in_core.specs.Seen.{Seen, session_rules}
 use Rattle.rd_rules.specs.Exchange.{Rules}
+use Rattle.rd_reading.specs.declared.setup.Setup.{Setup}
+use Rattle.rd_reading.specs.Seen.{rules_of}
+use Rattle.rd_core.specs.Standing.{Seen}
 
--- sessions of one dialect and the same limits go by the same rules
-pub same_rules : {D : Type 0} (grammar : D → Grammar) (s t : Seen D) → s.dialect ≡ t.dialect → s.limits ≡ t.limits → session_rules (grammar s.dialect) s ≡ session_rules (grammar t.dialect) t
-same_rules {D} grammar s t dialects limits =
-    ap (λ (d : D). session_rules (grammar d) s) dialects ∙ ap (λ (l : Limits). let r : Rules = record { side = Incoming; grammar = grammar t.dialect; limits = l } in r) limits
+-- sessions of one dialect and the same setup go by the same rules
+pub same_rules : {D : Type 0} (grammar : D → Grammar) (s t : Seen D) → s.dialect ≡ t.dialect → s.setup ≡ t.setup → rules_of (grammar s.dialect) s.setup ≡ rules_of (grammar t.dialect) t.setup
+same_rules {D} grammar s t dialects setups =
+    ap (λ (d : D). rules_of (grammar d) s.setup) dialects ∙ ap (rules_of (grammar t.dialect)) setups
 
 -- and these are those that it was made with
-pub made_rules : {D : Type 0} (grammar : D → Grammar) (s : Seen D) (side : Side) (dialect : D) (limits : Limits) → side ≡ Incoming → s.dialect ≡ dialect → s.limits ≡ limits → session_rules (grammar s.dialect) s ≡ record { side = side; grammar = grammar dialect; limits = limits }
-made_rules {D} grammar s side dialect limits incoming dialects same =
-    ap (λ (d : D). session_rules (grammar d) s) dialects
-    ∙ ap (λ (l : Limits). let r : Rules = record { side = Incoming; grammar = grammar dialect; limits = l } in r) same
-    ∙ ap (λ (k : Side). let r : Rules = record { side = k; grammar = grammar dialect; limits = limits } in r) (sym incoming)
+pub made_rules : {D : Type 0} (grammar : D → Grammar) (s : Seen D) (dialect : D) (setup : Setup) → s.dialect ≡ dialect → s.setup ≡ setup → rules_of (grammar s.dialect) s.setup ≡ rules_of (grammar dialect) setup
+made_rules {D} grammar s dialect setup dialects setups =
+    ap (λ (d : D). rules_of (grammar d) s.setup) dialects ∙ ap (rules_of (grammar dialect)) setups

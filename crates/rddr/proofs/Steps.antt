@@ -1,5 +1,6 @@
 -- The text of a history's steps, one step after the other.
-use Rattle.std.proofs.Common.{◌≡◌, ℕ, zero, suc, ◌+◌, ◌-◌, ◌≤◌, true, List, [], ◌∷◌, ◌++◌, length, take, Some, refl, sym, ap, ◌∙◌, subst, arith, append-nil, append_assoc}
+use Rattle.std.proofs.Common.{◌≡◌, ℕ, zero, suc, ◌+◌, ◌-◌, ◌≤◌, true, List, [], ◌∷◌, ◌++◌, length, take, Option, Some, None, refl, sym, ap, ap₂, ◌∙◌, subst, arith, append-nil, append_assoc}
+use Rattle.std.specs.Prelude.{option_map, unwrap_or}
 use Rattle.std.specs.List.{slice_get}
 use Rattle.std.proofs.lemmas.Bool.{and_parts, and_from}
 use Rattle.std.proofs.lemmas.List.{take_more}
@@ -11,7 +12,7 @@ use Rattle.rd_base.specs.declared.sends.Send.{Send}
 use Rattle.rd_base.specs.declared.values.Happening.{Happening}
 use Rattle.rd_rules.specs.Exchange.{Rules}
 use Rattle.rd_rules.specs.Sent.{StepSends, steps_of, step_sends}
-use Rattle.rd_script.specs.Seen.{entry_without_rows}
+use Rattle.rd_script.specs.Seen.{happening_in}
 use Rattle.rddr.specs.Transcripts.{sends_text, step_text, steps_text, all_steps_text}
 
 -- one more entry
@@ -64,10 +65,16 @@ begins_all r h k within =
     let e : k + (length h - k) ≡ length h = omega arith in
     subst (λ (m : ℕ). IsPrefixOf (steps_text (steps_of r h k)) (steps_text (steps_of r h m))) e (further r h k (length h - k))
 
--- one more happening, to which no rows are told
-pub one_happening : (h : History) (k : ℕ) (happening : Happening) (told : List Row) → slice_get h k ≡ Some (entry_without_rows happening) → told ≡ [] → take (k + 1) h ≡ take k h ++ record { at = happening.at; what = happening.what; told = told } ∷ []
-one_happening h k happening told is none =
-    one_entry h k (entry_without_rows happening) is ∙ ap (λ t. take k h ++ record { at = happening.at; what = happening.what; told = t } ∷ []) (sym none)
+-- one more happening, with the rows told to it
+pub one_happening : (h : History) (k : ℕ) (happening : Happening) (told : List Row) → option_map happening_in (slice_get h k) ≡ Some happening → option_map (λ e. e.told) (slice_get h k) ≡ Some told → take (k + 1) h ≡ take k h ++ record { at = happening.at; what = happening.what; told = told } ∷ []
+one_happening h k happening told is are = by (slice_get h k) refl is are
+  where
+    by : (o : Option Entry) → slice_get h k ≡ o → option_map happening_in o ≡ Some happening → option_map (λ e. e.told) o ≡ Some told → take (k + 1) h ≡ take k h ++ record { at = happening.at; what = happening.what; told = told } ∷ []
+    by None found a b = absurd (cc a)
+    by (Some e) found a b =
+        let here : happening_in e ≡ happening = ap (λ o. unwrap_or o happening) a in
+        let rows : e.told ≡ told = ap (λ o. unwrap_or o told) b in
+        one_entry h k e found ∙ ap₂ (λ (x : Happening) t. take k h ++ record { at = x.at; what = x.what; told = t } ∷ []) here rows
 
 -- the text of what a step sends
 pub sent_text : (r : Rules) (h : History) (k : ℕ) (e : Entry) (sends : List Send) → take (k + 1) h ≡ take k h ++ e ∷ [] → sends ≡ step_sends r (take k h) (take k h ++ e ∷ []) → sends_text (k + 1) sends ≡ step_text r h k

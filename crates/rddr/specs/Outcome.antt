@@ -65,7 +65,7 @@ too_long = record { text = codes "script: too long\n"; status = 3 }
 -- what a file comes to; one that isn't there can't be read, and nothing is written
 abbrev pub file_outcome : Option (List ℕ) → Outcome
 file_outcome None = record { text = []; status = 4 }
-file_outcome (Some text) = if nat_lt 65536 (length text) then too_long else script_outcome (script_of 3 text)
+file_outcome (Some text) = if nat_lt 67108864 (length text) then too_long else script_outcome (script_of 3 text)
 
 abbrev pub named_outcome : Option (List ℕ) → List NamedFile → Outcome
 named_outcome None files = usage

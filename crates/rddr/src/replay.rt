@@ -11,7 +11,7 @@ use rd_script::{ScriptRefusal, read_script};
 use std::alloc::{AllocError, Global};
 
 /// The most bytes of a script's file.
-const MOST_SCRIPT_BYTES: usize = 65_536;
+const MOST_SCRIPT_BYTES: usize = 67_108_864;
 
 /// What a session is held to where no settings are named.
 const DEFAULT_LIMITS: Limits = Limits {

@@ -1,17 +1,18 @@
 use Rattle.std.proofs.Common.{◌≡◌, ◌≤◌, false, take}
 use Rattle.rd_base.specs.Outside.{held_with}
-use Rattle.rd_in_core.specs.Seen.{IsAt, session_rules}
+use Rattle.rd_reading.specs.Seen.{rules_of}
+use Rattle.rd_core.specs.Standing.{IsAt}
 use Rattle.rd_rules.specs.Sent.{steps_of}
 use Rattle.rddr.specs.Transcripts.{steps_text}
 use Rattle.rddr.proofs.run_script.run_steps.Given as goal
 
 abbrev pub invariant-loop-place : goal.invariant-loop-place
 invariant-loop-place g l =
-    let rules = session_rules (g.D.Dialect.grammar l.fn.session.dialect) l.fn.session in
+    let rules = rules_of (g.D.Dialect.grammar l.fn.session.dialect) l.fn.session.setup in
     let h = l.script.entries in
     record {
       dialect : l.session.dialect ≡ l.fn.session.dialect;
-      limits : l.session.limits ≡ l.fn.session.limits;
+      setup : l.session.setup ≡ l.fn.session.setup;
       at : IsAt rules l.session (take l.place h);
       held : g.K.Sink.held l.out ≡ held_with (g.K.Sink.held l.fn.out) (steps_text (steps_of rules h l.place));
       faults : g.K.Sink.faults l.fn.out ≤ g.K.Sink.faults l.out;
