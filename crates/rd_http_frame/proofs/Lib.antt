@@ -8,3 +8,6 @@ pub mod Starts
 pub mod HeadsRead
 pub mod TargetCuts
 pub mod HeadCuts
+pub mod Sections
+pub mod ChunkSteps
+pub mod WholeHeads

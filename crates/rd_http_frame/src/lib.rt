@@ -2,12 +2,14 @@
 #![tactic(auto)]
 
 mod body;
+mod chunk;
 mod fields;
 mod head;
 mod lines;
 mod place;
 mod scan;
 mod target;
+mod trailer;
 
 pub use body::{BodyRule, body_rule};
 pub use head::Head;
