@@ -172,3 +172,50 @@ step_last bytes at chunk e last =
 pub step_stop : (bytes : List ℕ) (at : ℕ) (scan : Scan) → front_chunk (drop at bytes) ≡ Err scan
     → further at (trailer_from (drop at bytes)) ≡ Err scan
 step_stop bytes at scan e = ap (further at) (trailer_step (drop at bytes) ∙ ap (λ r. and_then r (trailer_behind (drop at bytes))) e)
+
+-- without a last chunk there is no length
+record NotWhole {A : Type 0} (r : Result A Scan) : Type 0 where
+  never : (len : ℕ) → r ≢ Err (Whole len)
+
+not_ok : {A : Type 0} (a : A) → NotWhole (Ok a)
+not_ok a = record { never = λ len e. cc e }
+
+not_when : {A : Type 0} (scan : Scan) (f : ℕ → A) → NotWhole (when_whole scan f)
+not_when (Whole len) f = not_ok (f len)
+not_when More f = record { never = λ len e. cc e }
+not_when Bad f = record { never = λ len e. cc e }
+not_when TooBig f = record { never = λ len e. cc e }
+not_when (Unsupported code) f = record { never = λ len e. cc e }
+
+not_cond : {A : Type 0} {q r : Result A Scan} (t : Bool) → NotWhole q → NotWhole r → NotWhole (cond t q r)
+not_cond true h k = h
+not_cond false h k = k
+
+not_then : {A B : Type 0} (r : Result A Scan) (f : A → Result B Scan) → NotWhole r → ((a : A) → NotWhole (f a)) → NotWhole (and_then r f)
+not_then (Ok a) f h each = each a
+not_then (Err scan) f h each = record { never = λ len e. let same : scan ≡ Whole len = cc e in h.never len (ap Err same) }
+
+not_line : (bytes : List ℕ) → NotWhole (size_line bytes)
+not_line [] = record { never = λ len e. cc e }
+not_line (b ∷ bytes) =
+    let n = prefix_len is_ascii_hexdigit (b ∷ bytes) in
+    not_cond (nat_le 1 n && nat_le n 8) (not_when (line_end (drop n (b ∷ bytes))) (λ end. record { len = n + end; size = digits_value 16 (take n (b ∷ bytes)) })) (record { never = λ len e. cc e })
+
+not_behind : (bytes : List ℕ) (line : SizeLine) → NotWhole (chunk_behind bytes line)
+not_behind bytes line =
+    not_cond (line.size == 0) (not_ok (record { len = line.len; is_last = true }))
+    (not_when (line_end (drop (line.len + line.size) bytes)) (λ end. record { len = line.len + line.size + end; is_last = false }))
+
+not_further : (n : ℕ) (r : Result ℕ Scan) → NotWhole r → NotWhole (further n r)
+not_further n (Ok at) h = not_ok (n + at)
+not_further n (Err scan) h = record { never = λ len e. let same : scan ≡ Whole len = cc e in h.never len (ap Err same) }
+
+not_chunks : (n : ℕ) (bytes : List ℕ) → NotWhole (chunks_up_to n bytes)
+not_chunks zero bytes = record { never = λ len e. cc e }
+not_chunks (suc n) bytes =
+    not_then (front_chunk bytes) (λ chunk. cond chunk.is_last (Ok chunk.len) (further chunk.len (chunks_up_to n (drop chunk.len bytes))))
+    (not_then (size_line bytes) (chunk_behind bytes) (not_line bytes) (not_behind bytes))
+    (λ chunk. not_cond chunk.is_last (not_ok chunk.len) (not_further chunk.len _ (not_chunks n (drop chunk.len bytes))))
+
+pub trailer_never : (bytes : List ℕ) (scan : Scan) (len : ℕ) → trailer_from bytes ≡ Err scan → scan ≢ Whole len
+trailer_never bytes scan len e q = (not_chunks (length bytes) bytes).never len (e ∙ ap Err q)

@@ -11,3 +11,4 @@ pub mod HeadCuts
 pub mod Sections
 pub mod ChunkSteps
 pub mod WholeHeads
+pub mod FinalHeads

@@ -1,4 +1,5 @@
 -- What is found of a head is what the definitions say.
+use Rattle.std.specs.Prelude.{IfOk}
 use Rattle.std.proofs.Common.{◌≡◌, ℕ, ◌+◌, ◌<◌, ◌≤◌, Bool, true, false, List, [], ◌++◌, length, take, if◌then◌else◌, nat_le, Result, Ok, Err, refl, sym, ap, ◌∙◌, subst, arith, append-nil, append_assoc, length-take}
 use Rattle.httparse.specs.Grammar.{RequestHead, print_request, ReadsRequest, ResponseHead, print_response, ReadsResponse}
 use Rattle.httparse.proofs.GrammarLemmas.{request_unique, response_unique, ReadsRequest-append, ReadsResponse-append}
@@ -51,3 +52,15 @@ unfinished_open bytes = by (nat_le 65536 (length bytes))
     by : (t : Bool) → is_whole (if t then TooBig else More) ≡ false
     by true = refl
     by false = refl
+
+-- a head has bytes, and they are there
+pub begins_fits : (part : Part) (bytes : List ℕ) (len : ℕ) (head : HeadPlaces) → BeginsWith part bytes len head → (0 < len) × (len ≤ length bytes)
+begins_fits part bytes len head x = ((head_framing part).some_bytes bytes len x.whole, (head_framing part).within bytes len x.whole)
+
+pub found_some : (part : Part) (bytes : List ℕ) (found : Result WholeHead Scan) → IsWholeHead part bytes found → IfOk found (λ h. 0 < h.len)
+found_some part bytes (Ok found) x = (begins_fits part bytes found.len x.0 x.1).0
+found_some part bytes (Err scan) x = tt
+
+pub found_within : (part : Part) (bytes : List ℕ) (found : Result WholeHead Scan) → IsWholeHead part bytes found → IfOk found (λ h. h.len ≤ length bytes)
+found_within part bytes (Ok found) x = (begins_fits part bytes found.len x.0 x.1).1
+found_within part bytes (Err scan) x = tt

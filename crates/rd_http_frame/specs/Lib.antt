@@ -6,3 +6,4 @@ pub mod HeadLaws
 pub mod Chunks
 pub mod Trailers
 pub mod WholeHeads
+pub mod Units

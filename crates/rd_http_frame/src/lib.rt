@@ -10,11 +10,13 @@ mod place;
 mod scan;
 mod target;
 mod trailer;
+mod unit;
 
 pub use body::{BodyRule, body_rule};
 pub use head::Head;
 pub use place::{FieldSpan, Span};
 pub use scan::scan_head;
+pub use unit::{scan_reply, scan_request};
 
 #[cfg(test)]
 mod tests;

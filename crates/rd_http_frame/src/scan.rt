@@ -1,4 +1,4 @@
-ghost use Rattle.std.specs.Prelude.{◌≡◌, ◌≤◌, length};
+ghost use Rattle.std.specs.Prelude.{◌≡◌, ◌≤◌, ◌<◌, length, IfOk};
 ghost use Rattle.rd_base.specs.declared.values.Scan.{Scan};
 ghost use Rattle.httparse.specs.Grammar.{RequestHead, ResponseHead};
 ghost use Rattle.httparse.specs.Spans.{IsRequestAt, IsRequestWithin, IsResponseAt, IsResponseWithin};
@@ -52,7 +52,9 @@ pub fn scan_head(part: Part, bytes: &[u8]) -> Scan
 
 /// The head at the front, or what the bytes come to without a whole one.
 pub(crate) fn whole_head(part: Part, bytes: &[u8]) -> Result<WholeHead, Scan>
-    ensures { IsWholeHead part bytes.now result }
+    ensures head { IsWholeHead part bytes.now result }
+    ensures some_bytes { IfOk result (λ head. 0 < head.len) }
+    ensures within { IfOk result (λ head. head.len ≤ length bytes.now) }
 {
     match part {
         Part::Request => whole_request_head(seen(bytes)),

@@ -1,5 +1,6 @@
+ghost use Rattle.rd_base.specs.declared.values.Scan.TheVariants.{Whole};
 ghost use Rattle.rd_http_frame.specs.Heads.{seen};
-ghost use Rattle.std.specs.Prelude.{◌≤◌, length};
+ghost use Rattle.std.specs.Prelude.{◌≡◌, ◌≤◌, ℕ, length};
 ghost use Rattle.rd_http_frame.specs.Trailers.{IsSectionScan, IsTrailerScan};
 
 use crate::lines::line_feeds;
@@ -10,7 +11,8 @@ use rd_base::Scan;
 
 /// What the bytes behind the last size line come to. Of the first 65,536 no more are looked at.
 pub(crate) fn scan_trailer(bytes: &[u8]) -> Scan
-    ensures { IsTrailerScan bytes.now result }
+    ensures scan { IsTrailerScan bytes.now result }
+    ensures within { (len : ℕ) → result ≡ Whole len → len ≤ length bytes.now }
 {
     scan_section(seen(bytes))
 }
@@ -18,7 +20,8 @@ pub(crate) fn scan_trailer(bytes: &[u8]) -> Scan
 /// What the bytes come to as field lines and an empty line.
 fn scan_section(bytes: &[u8]) -> Scan
     requires { length bytes.now ≤ 65536 }
-    ensures { IsSectionScan bytes.now result }
+    ensures scan { IsSectionScan bytes.now result }
+    ensures within { (len : ℕ) → result ≡ Whole len → len ≤ length bytes.now }
 {
     if line_feeds(bytes, true) > MOST_FIELDS {
         return Scan::TooBig;
