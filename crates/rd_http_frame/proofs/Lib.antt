@@ -12,3 +12,7 @@ pub mod Sections
 pub mod ChunkSteps
 pub mod WholeHeads
 pub mod FinalHeads
+pub mod HeadOnce
+pub mod FinalOnce
+pub mod TrailerCuts
+pub mod ChunkCuts

@@ -1,0 +1,53 @@
+-- A final head is one, however many bytes follow it.
+use Rattle.std.proofs.Common.{◌≡◌, ℕ, ◌+◌, ◌-◌, ◌<◌, ◌≤◌, Bool, true, false, List, ◌++◌, length, take, drop, length-drop, Result, Ok, Err, refl, sym, ap, ◌∙◌, subst, arith}
+use Rattle.std.proofs.lemmas.Bool.{false≢true}
+use Rattle.std.proofs.lemmas.List.{drop-append-le, drop-take}
+use Rattle.rd_base.specs.declared.values.Scan.{Scan}
+use Rattle.rd_base.specs.declared.values.Scan.TheVariants.{Whole, More, Bad, TooBig, Unsupported}
+use Rattle.rd_base.specs.declared.values.Part.{Part}
+use Rattle.rd_http_frame.specs.declared.body.BodyRule.{BodyRule}
+use Rattle.rd_http_frame.specs.declared.unit.FinalHead.{FinalHead}
+use Rattle.rd_http_frame.specs.Places.{HeadPlaces}
+use Rattle.rd_http_frame.specs.WholeHeads.{BeginsWith, is_whole}
+use Rattle.rd_http_frame.specs.Units.{IsFinalHead, head_behind, is_interim}
+use Rattle.rd_http_frame.specs.Units.{IsFinalHead as found_of}
+use Rattle.rd_http_frame.specs.Units.IsFinalHead.{Missing, Interim, Final}
+use Rattle.rd_http_frame.proofs.Unique.{head_once}
+use Rattle.rd_http_frame.proofs.HeadCuts.{head_framing}
+use Rattle.rd_http_frame.proofs.HeadOnce.{begins_once, begins_or_not, begins_stays, begins_itself}
+
+both : {A : Type 0} (s t : ℕ) → s ≡ t → is_interim s ≡ true → is_interim t ≡ false → A
+both s t e mid fin = absurd (false≢true (sym fin ∙ ap is_interim (sym e) ∙ mid))
+
+pub final_once : (part : Part) (bytes : List ℕ) (a b : Result FinalHead Scan) → IsFinalHead part bytes a → IsFinalHead part bytes b → a ≡ b
+final_once part bytes a b (found_of.Missing bs s r x none e) (found_of.Missing cs t q y shut f) = e ∙ ap Err (head_once part bytes s t x y) ∙ sym f
+final_once part bytes a b (found_of.Missing bs s r x none e) (found_of.Interim cs len head later q y mid z f) = absurd (begins_or_not part bytes len head s y x none)
+final_once part bytes a b (found_of.Missing bs s r x none e) (found_of.Final cs len head q y fin f) = absurd (begins_or_not part bytes len head s y x none)
+final_once part bytes a b (found_of.Interim bs m head later r x mid z e) (found_of.Missing cs t q y shut f) = absurd (begins_or_not part bytes m head t x y shut)
+final_once part bytes a b (found_of.Interim bs m h later r x mid z e) (found_of.Interim cs n k after q y si w f) =
+    let same = begins_once part bytes m n h k x y in
+    let moved : IsFinalHead part (drop m bytes) after = subst (λ (i : ℕ). IsFinalHead part (drop i bytes) after) (sym same.0) w in
+    e ∙ ap (λ (i : ℕ). head_behind i later) same.0 ∙ ap (head_behind n) (final_once part (drop m bytes) later after z moved) ∙ sym f
+final_once part bytes a b (found_of.Interim bs m h later r x mid z e) (found_of.Final cs n k q y fin f) =
+    both h.status k.status (ap (λ (p : HeadPlaces). p.status) (begins_once part bytes m n h k x y).1) mid fin
+final_once part bytes a b (found_of.Final bs m h r x fin e) (found_of.Missing cs t q y shut f) = absurd (begins_or_not part bytes m h t x y shut)
+final_once part bytes a b (found_of.Final bs m h r x fin e) (found_of.Interim cs n k after q y mid w f) =
+    both k.status h.status (ap (λ (p : HeadPlaces). p.status) (begins_once part bytes n m k h y x).1) mid fin
+final_once part bytes a b (found_of.Final bs m h r x fin e) (found_of.Final cs n k q y on f) =
+    let same = begins_once part bytes m n h k x y in
+    e ∙ ap (λ (i : ℕ). Ok (record { from = 0; to = i; body = h.body })) same.0 ∙ ap (λ (p : HeadPlaces). Ok (record { from = 0; to = n; body = p.body })) same.1 ∙ sym f
+
+pub behind_err : (n : ℕ) (found : Result FinalHead Scan) (scan : Scan) → head_behind n found ≡ Err scan → found ≡ Err scan
+behind_err n (Ok head) scan e = absurd (cc e)
+behind_err n (Err s) scan e = e
+
+pub behind_ok : (n : ℕ) (found : Result FinalHead Scan) (head : FinalHead) → head_behind n found ≡ Ok head → (later : FinalHead) × (found ≡ Ok later) × (head ≡ record { from = n + later.from; to = n + later.to; body = later.body })
+behind_ok n (Ok later) head e = (later, refl, cc (sym e))
+behind_ok n (Err s) head e = absurd (cc e)
+
+-- what is missing isn't whole
+pub missing_open : (part : Part) (bytes : List ℕ) (found : Result FinalHead Scan) (scan : Scan) → IsFinalHead part bytes found → found ≡ Err scan → is_whole scan ≡ false
+missing_open part bytes found scan (found_of.Missing bs s r x none e) q = let same : s ≡ scan = cc (sym e ∙ q) in ap is_whole (sym same) ∙ none
+missing_open part bytes found scan (found_of.Interim bs len head later r x mid z e) q =
+    missing_open part (drop len bytes) later scan z (behind_err len later scan (sym e ∙ q))
+missing_open part bytes found scan (found_of.Final bs len head r x fin e) q = absurd (cc (sym e ∙ q))
