@@ -16,3 +16,4 @@ pub mod HeadOnce
 pub mod FinalOnce
 pub mod TrailerCuts
 pub mod ChunkCuts
+pub mod BodyCuts

@@ -7,3 +7,4 @@ pub mod Chunks
 pub mod Trailers
 pub mod WholeHeads
 pub mod Units
+pub mod UnitLaws
