@@ -17,3 +17,4 @@ pub mod FinalOnce
 pub mod TrailerCuts
 pub mod ChunkCuts
 pub mod BodyCuts
+pub mod UnitCuts

@@ -74,3 +74,7 @@ IsWholeRequestScan bytes scan = IsUnitScan Request false false bytes scan
 -- a reply, to HEAD or to another request
 abbrev pub IsWholeReplyScan : Bool → Bool → List ℕ → Scan → Type 0
 IsWholeReplyScan head_request ended bytes scan = IsUnitScan Reply head_request ended bytes scan
+
+-- the final head begins here
+abbrev pub IsShownFrom : List ℕ → ℕ → Type 0
+IsShownFrom reply at = (head : FinalHead) × IsFinalHead Reply reply (Ok head) × (at ≡ head.from)

@@ -16,7 +16,7 @@ pub use body::{BodyRule, body_rule};
 pub use head::Head;
 pub use place::{FieldSpan, Span};
 pub use scan::scan_head;
-pub use unit::{scan_reply, scan_request};
+pub use unit::{scan_reply, scan_request, shown_from};
 
 #[cfg(test)]
 mod tests;

@@ -1,7 +1,8 @@
-ghost use Rattle.std.specs.Prelude.{◌≡◌, ◌≤◌, ◌<◌, List, ℕ, true, false, ◌+◌, ◌^◌, length, IfOk};
+ghost use Rattle.std.specs.Prelude.{◌≡◌, ◌≤◌, ◌<◌, ℕ, Bool, ◌+◌, ◌^◌, length, IfOk};
 ghost use Rattle.rd_base.specs.declared.values.Scan.TheVariants.{Whole};
-ghost use Rattle.rd_base.specs.declared.values.Part.TheVariants.{Request, Reply};
-ghost use Rattle.rd_http_frame.specs.Units.{is_interim, IsFinalHead, behind, IsTrailerBehind, IsBodyScan, rule_in, IsUnitScan};
+ghost use Rattle.rd_base.specs.declared.values.Scan.{Scan};
+ghost use Rattle.rd_http_frame.specs.Units.{is_interim, IsFinalHead, behind, IsTrailerBehind, IsBodyScan, rule_in, IsUnitScan, IsWholeRequestScan, IsWholeReplyScan, IsShownFrom};
+ghost use Rattle.rd_http_frame.specs.UnitLaws.{IsUnitFraming};
 ghost use Rattle.rd_http_frame.specs.Chunks.{trailer_from};
 
 use crate::body::BodyRule;
@@ -15,7 +16,13 @@ use rd_base::{Part, Scan};
 /// `Bad`, `TooBig` and `Unsupported` are those of `scan_head`. `Bad` comes also of a byte that can't stand in a
 /// chunked body or in its trailer, `TooBig` of a trailer past 100 fields or 65,536 bytes.
 pub fn scan_request(bytes: &[u8]) -> Scan
-    ensures scan { IsUnitScan Request false false bytes.now result }
+    ensures scan { IsWholeRequestScan bytes.now result }
+
+    // The definition is met by this answer alone.
+    ensures only { (other : Scan) → IsWholeRequestScan bytes.now other → other ≡ result }
+
+    // No request begins another, and hopeless bytes begin none, whatever follows.
+    ensures framing { IsUnitFraming (λ _. IsWholeRequestScan) }
 {
     scan_unit(Part::Request, false, bytes, false)
 }
@@ -26,9 +33,28 @@ pub fn scan_request(bytes: &[u8]) -> Scan
 /// Its answers come of the same as `scan_request`'s. A body whose end is not stated is whole only at the end
 /// of its link.
 pub fn scan_reply(head_request: bool, bytes: &[u8], ended: bool) -> Scan
-    ensures scan { IsUnitScan Reply head_request ended bytes.now result }
+    ensures scan { IsWholeReplyScan head_request ended bytes.now result }
+
+    // The definition is met by this answer alone.
+    ensures only { (other : Scan) → IsWholeReplyScan head_request ended bytes.now other → other ≡ result }
+
+    // No reply begins another, but one that is read until its link ends; hopeless bytes begin none.
+    ensures framing { IsUnitFraming (IsWholeReplyScan head_request) }
 {
     scan_unit(Part::Reply, head_request, bytes, ended)
+}
+
+/// The place where the final head of a whole reply begins, behind the interim ones.
+pub fn shown_from(reply: &[u8]) -> usize
+    requires { (head_request : Bool) × (ended : Bool) × IsWholeReplyScan head_request ended reply.now (Whole (length reply.now)) }
+    ensures from { IsShownFrom reply.now result }
+    ensures only { (other : ℕ) → IsShownFrom reply.now other → other ≡ result }
+    ensures within { result < length reply.now }
+{
+    match final_head(Part::Reply, reply) {
+        Ok(head) => head.from,
+        Err(_) => 0,
+    }
 }
 
 fn scan_unit(part: Part, head_request: bool, bytes: &[u8], ended: bool) -> Scan
