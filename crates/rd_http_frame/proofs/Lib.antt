@@ -18,3 +18,4 @@ pub mod TrailerCuts
 pub mod ChunkCuts
 pub mod BodyCuts
 pub mod UnitCuts
+pub mod ChunkData

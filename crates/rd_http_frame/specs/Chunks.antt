@@ -1,6 +1,6 @@
 -- The chunks of a body: RFC 9112, section 7.1, with three narrowings. A size has at most 8 digits, and its
 -- line has no chunk extension and no white space.
-use Rattle.std.specs.Prelude.{ℕ, zero, suc, ◌+◌, ◌==◌, ◌&&◌, nat_le, true, false, if◌then◌else◌, List, [], ◌∷◌, ◌++◌, length, take, drop, Result, Ok, Err}
+use Rattle.std.specs.Prelude.{ℕ, zero, suc, ◌+◌, ◌==◌, ◌&&◌, nat_le, true, false, if◌then◌else◌, List, [], ◌∷◌, ◌++◌, length, take, drop, Result, Ok, Err, Option, Some, None}
 use Rattle.std.specs.List.{prefix_len}
 use Rattle.std.specs.Char.{is_ascii_hexdigit}
 use Rattle.std.specs.Str.Parse.{digits_value}
@@ -66,14 +66,19 @@ chunks_up_to (suc most) bytes =
 abbrev pub trailer_from : List ℕ → Result ℕ Scan
 trailer_from bytes = chunks_up_to (length bytes) bytes
 
-abbrev pub data_behind : Result SizeLine Scan → (SizeLine → List ℕ) → List ℕ
-data_behind (Ok line) more = if line.size == 0 then [] else more line
-data_behind (Err scan) more = []
+-- a size line with data behind it
+abbrev pub data_line : Result SizeLine Scan → Option SizeLine
+data_line (Ok line) = if line.size == 0 then None else Some line
+data_line (Err scan) = None
+
+-- the data behind a size line, and what `more` makes of what follows its CR LF
+abbrev pub data_behind : List ℕ → (List ℕ → List ℕ) → Option SizeLine → List ℕ
+data_behind bytes more (Some line) = take line.size (drop line.len bytes) ++ more (drop (line.size + 2) (drop line.len bytes))
+data_behind bytes more None = []
 
 abbrev pub data_up_to : ℕ → List ℕ → List ℕ
 data_up_to zero bytes = []
-data_up_to (suc most) bytes =
-    data_behind (size_line bytes) (λ line. take line.size (drop line.len bytes) ++ data_up_to most (drop (line.len + line.size + 2) bytes))
+data_up_to (suc most) bytes = data_behind bytes (data_up_to most) (data_line (size_line bytes))
 
 -- the bytes in the chunks, as far as they are there
 abbrev pub chunk_data : List ℕ → List ℕ

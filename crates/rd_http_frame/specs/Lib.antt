@@ -8,3 +8,4 @@ pub mod Trailers
 pub mod WholeHeads
 pub mod Units
 pub mod UnitLaws
+pub mod Flats

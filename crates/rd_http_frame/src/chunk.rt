@@ -1,8 +1,8 @@
-ghost use Rattle.std.specs.Prelude.{◌≡◌, ◌≤◌, ◌<◌, ◌^◌, ℕ, true, length, slice_index, IfOk};
+ghost use Rattle.std.specs.Prelude.{◌≡◌, ◌≤◌, ◌<◌, ◌^◌, ℕ, true, length, slice_index, IfOk, IfSome};
 ghost use Rattle.std.specs.List.{prefix_len};
 ghost use Rattle.std.specs.Char.{is_ascii_hexdigit, digit_value};
 ghost use Rattle.std.specs.Str.Parse.{digits_value};
-ghost use Rattle.rd_http_frame.specs.Chunks.{line_end, size_line, digits_line, front_chunk, chunk_behind, trailer_from};
+ghost use Rattle.rd_http_frame.specs.Chunks.{line_end, size_line, digits_line, front_chunk, chunk_behind, trailer_from, data_line};
 
 use rd_base::Scan;
 
@@ -149,5 +149,18 @@ fn digit_value(digit: u8) -> usize
         b'0'..=b'9' => (digit - b'0') as usize,
         b'A'..=b'F' => (digit - b'A') as usize + 10,
         _ => (digit - b'a') as usize + 10,
+    }
+}
+
+/// The size line at the front where data follows it.
+pub(crate) fn data_line(bytes: &[u8]) -> Option<SizeLine>
+    ensures line { result ≡ data_line (size_line bytes.now) }
+    ensures some_bytes { IfSome result (λ line. 0 < line.len) }
+    ensures within { IfSome result (λ line. line.len ≤ length bytes.now) }
+    ensures small { IfSome result (λ line. line.size < 2 ^ 32) }
+{
+    match size_line(bytes) {
+        Ok(line) if line.size != 0 => Some(line),
+        _ => None,
     }
 }

@@ -4,6 +4,7 @@
 mod body;
 mod chunk;
 mod fields;
+mod flat;
 mod head;
 mod lines;
 mod place;
@@ -13,6 +14,7 @@ mod trailer;
 mod unit;
 
 pub use body::{BodyRule, body_rule};
+pub use flat::flat_into;
 pub use head::Head;
 pub use place::{FieldSpan, Span};
 pub use scan::scan_head;
