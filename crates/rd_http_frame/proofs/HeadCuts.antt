@@ -22,7 +22,7 @@ use Rattle.rd_http_frame.proofs.HeadLines.{printed, feeds-body, body}
 use Rattle.rd_http_frame.proofs.TargetCuts.{target_good}
 use Rattle.rd_http_frame.proofs.Replies.{reply_printed, feeds-reply_body, reply_body}
 
-take_cut : (n : ℕ) (xs ys : List ℕ) → (r : List ℕ) × (take n (xs ++ ys) ≡ take n xs ++ r)
+pub take_cut : (n : ℕ) (xs ys : List ℕ) → (r : List ℕ) × (take n (xs ++ ys) ≡ take n xs ++ r)
 take_cut zero xs ys = ([], refl)
 take_cut (suc n) [] ys = (take (suc n) ys, refl)
 take_cut (suc n) (x ∷ xs) ys = let z = take_cut n xs ys in (z.0, ap (λ (t : List ℕ). x ∷ t) z.1)

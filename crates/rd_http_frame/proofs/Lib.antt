@@ -19,3 +19,4 @@ pub mod ChunkCuts
 pub mod BodyCuts
 pub mod UnitCuts
 pub mod ChunkData
+pub mod FlatForms

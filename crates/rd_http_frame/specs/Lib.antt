@@ -9,3 +9,4 @@ pub mod WholeHeads
 pub mod Units
 pub mod UnitLaws
 pub mod Flats
+pub mod FlatLaws

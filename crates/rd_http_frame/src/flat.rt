@@ -1,6 +1,7 @@
 ghost use Rattle.std.specs.Prelude.{◌≡◌, ◌≤◌, ◌+◌, ◌*◌, ◌++◌, ℕ, List, length, Bool, false, OnOk, OnErr, take};
 ghost use Rattle.rd_base.specs.Outside.{IsPrefixOf};
 ghost use Rattle.rd_http_frame.specs.Chunks.{chunk_data, trailer_from};
+ghost use Rattle.rd_http_frame.specs.FlatLaws.{AreFlatForms};
 ghost use Rattle.rd_http_frame.specs.Flats.{body_data, trailer_of, behind_last, with_length, flat_body, flat_behind, IsFlat};
 ghost use Rattle.std.specs.Prelude.{Ok};
 
@@ -23,6 +24,9 @@ pub fn flat_into(
 ) -> Result<(), NoMemory>
     ensures ok { OnOk result ((flat : List ℕ) × IsFlat part head_request bytes.now whole flat × (out.new ≡ out.old ++ flat)) }
     ensures err { OnErr result (out.new ≡ out.old) }
+
+    // One flat form of each bytes; a part's begins the whole's; it has at most thrice the bytes and four.
+    ensures laws { AreFlatForms part head_request }
 {
     let Ok(head) = final_head(part, bytes) else {
         return Ok(());
