@@ -55,10 +55,10 @@ digits_stay n text more h =
     let q = when_whole (line_end (drop n text)) (line_of n text) in
     let r = when_whole (line_end (drop n (text ++ more))) (line_of n (text ++ more)) in
     let same_line : when_whole (line_end (drop n (text ++ more))) (line_of n text) ≡ r =
-        ap (λ (t : List ℕ). when_whole (line_end (drop n (text ++ more))) (λ end. record { len = n + end; size = digits_value 16 t })) (sym (take-append-le n text more h)) in
+    ap (λ (t : List ℕ). when_whole (line_end (drop n (text ++ more))) (λ end. record { len = n + end; size = digits_value 16 t })) (sym (take-append-le n text more h)) in
     let stays : Stays q (when_whole (line_end (drop n (text ++ more))) (line_of n text)) =
-        when_stays (line_end (drop n text)) (line_end (drop n (text ++ more))) (line_of n text)
-        (λ told. ap line_end (drop-append-le n text more h) ∙ line_end_stays (drop n text) more told) in
+    when_stays (line_end (drop n text)) (line_end (drop n (text ++ more))) (line_of n text)
+    (λ told. ap line_end (drop-append-le n text more h) ∙ line_end_stays (drop n text) more told) in
     cond_stays (nat_le 1 n && nat_le n 8) q r (Err Bad) (λ told. sym same_line ∙ stays told)
 
 digits_open : (n : ℕ) (text : List ℕ) → length text ≤ n → digits_line n text ≢ Err More → (nat_le 1 n && nat_le n 8) ≡ false
@@ -77,14 +77,17 @@ size_line_stays (b ∷ bytes) more told = by (cases_lt n (length text))
   where
     text : List ℕ
     text = b ∷ bytes
+
     n : ℕ
     n = prefix_len is_ascii_hexdigit text
+
     joined : prefix_len is_ascii_hexdigit (text ++ more) ≡ cond (n == length text) (length text + prefix_len is_ascii_hexdigit more) n
     joined = prefix_len-append is_ascii_hexdigit text more
+
     by : (n < length text) ⊎ (length text ≤ n) → size_line (text ++ more) ≡ size_line text
     by (inl below) =
         let count : prefix_len is_ascii_hexdigit (text ++ more) ≡ n =
-            joined ∙ ap (λ t. cond t (length text + prefix_len is_ascii_hexdigit more) n) (ne_eqb n (length text) (λ e. omega (arith, e, below))) in
+        joined ∙ ap (λ t. cond t (length text + prefix_len is_ascii_hexdigit more) n) (ne_eqb n (length text) (λ e. omega (arith, e, below))) in
         ap (λ k. digits_line k (text ++ more)) count ∙ digits_stay n text more (omega (arith, below)) told
     by (inr all) =
         let most : n ≤ length text = prefix_len-le-length is_ascii_hexdigit text in
@@ -107,12 +110,14 @@ behind_stays bytes more line = by (line.size == 0)
   where
     at : ℕ
     at = line.len + line.size
+
     here : line_end (drop at bytes) ≢ More → line_end (drop at (bytes ++ more)) ≡ line_end (drop at bytes)
     here told = by_room (cases_lt (length bytes) at)
       where
         by_room : (length bytes < at) ⊎ (at ≤ length bytes) → line_end (drop at (bytes ++ more)) ≡ line_end (drop at bytes)
         by_room (inl short) = absurd (told (ap line_end (drop_all at bytes (omega (arith, short)))))
         by_room (inr there) = ap line_end (drop-append-le at bytes more there) ∙ line_end_stays (drop at bytes) more told
+
     by : (t : Bool) → Stays (cond t (Ok (record { len = line.len; is_last = true })) (when_whole (line_end (drop at bytes)) (chunk_of line)))
         (cond t (Ok (record { len = line.len; is_last = true })) (when_whole (line_end (drop at (bytes ++ more))) (chunk_of line)))
     by true told = refl
@@ -137,28 +142,34 @@ line_made (b ∷ bytes) line shown =
 
 line_itself : (bytes : List ℕ) (line : SizeLine) → size_line bytes ≡ Ok line → size_line (take line.len bytes) ≡ Ok line
 line_itself bytes line e = line_made (take line.len bytes) line (record {
-      count = n;
-      digits = ap (λ k. prefix_len is_ascii_hexdigit (take k bytes)) shown.len ∙ count (p == length (take (n + 2) bytes)) joined;
-      counted = shown.counted;
-      end = ap (λ k. line_end (drop n (take k bytes))) shown.len ∙ ap line_end (drop-take n 2 bytes) ∙ ap (λ t. line_end (take 2 t)) ends.is;
-      len = shown.len;
-      size = shown.size ∙ ap (digits_value 16) (sym (ap (λ k. take n (take k bytes)) shown.len ∙ take-take n (n + 2) bytes (omega arith)));
-    })
+  count = n;
+  digits = ap (λ k. prefix_len is_ascii_hexdigit (take k bytes)) shown.len ∙ count (p == length (take (n + 2) bytes)) joined;
+  counted = shown.counted;
+  end = ap (λ k. line_end (drop n (take k bytes))) shown.len ∙ ap line_end (drop-take n 2 bytes) ∙ ap (λ t. line_end (take 2 t)) ends.is;
+  len = shown.len;
+  size = shown.size ∙ ap (digits_value 16) (sym (ap (λ k. take n (take k bytes)) shown.len ∙ take-take n (n + 2) bytes (omega arith)));
+})
   where
     shown : ShowsLine bytes line
     shown = size_line_shows bytes line e
+
     n : ℕ
     n = shown.count
+
     ends : EndsLine (drop n bytes) 2
     ends = line_end_shows (drop n bytes) 2 shown.end
+
     p : ℕ
     p = prefix_len is_ascii_hexdigit (take (n + 2) bytes)
+
     room : n + 2 ≤ length bytes
     room = let there : length (drop n bytes) ≡ suc (suc (length ends.rest)) = ap length ends.is in omega (arith, there, length-drop n bytes)
+
     joined : n ≡ cond (p == length (take (n + 2) bytes)) (length (take (n + 2) bytes) + prefix_len is_ascii_hexdigit (drop (n + 2) bytes)) p
     joined =
         sym shown.digits ∙ ap (prefix_len is_ascii_hexdigit) (sym (take-append-drop (n + 2) bytes))
         ∙ prefix_len-append is_ascii_hexdigit (take (n + 2) bytes) (drop (n + 2) bytes)
+
     count : (t : Bool) → n ≡ cond t (length (take (n + 2) bytes) + prefix_len is_ascii_hexdigit (drop (n + 2) bytes)) p → p ≡ n
     count true q = absurd (omega (arith, q, length-take (n + 2) bytes, room))
     count false q = sym q
@@ -175,12 +186,16 @@ chunk_itself bytes chunk e = by (line.size == 0) refl found.2
   where
     found : (line : SizeLine) × (size_line bytes ≡ Ok line) × (chunk_behind bytes line ≡ Ok chunk)
     found = then_ok (size_line bytes) (chunk_behind bytes) chunk e
+
     line : SizeLine
     line = found.0
+
     at : ℕ
     at = line.len + line.size
+
     last : Result Chunk Scan
     last = Ok (record { len = line.len; is_last = true })
+
     by : (t : Bool) → (line.size == 0) ≡ t → cond t (Ok (record { len = line.len; is_last = true })) (when_whole (line_end (drop at bytes)) (chunk_of line)) ≡ Ok chunk → front_chunk (take chunk.len bytes) ≡ Ok chunk
     by true zero_size q =
         let same : record { len = line.len; is_last = true } ≡ chunk = cc q in
@@ -195,7 +210,7 @@ chunk_itself bytes chunk e = by (line.size == 0) refl found.2
         let two : chunk.len ≡ at + 2 = omega (arith, len, ends.two) in
         let room : line.len ≤ at = omega arith in
         let end : line_end (drop at (take chunk.len bytes)) ≡ Whole whole.0 =
-            ap (λ k. line_end (drop at (take k bytes))) two ∙ ap line_end (drop-take at 2 bytes) ∙ ap (λ t. line_end (take 2 t)) ends.is ∙ ap Whole (sym ends.two) in
+        ap (λ k. line_end (drop at (take k bytes))) two ∙ ap line_end (drop-take at 2 bytes) ∙ ap (λ t. line_end (take 2 t)) ends.is ∙ ap Whole (sym ends.two) in
         ap (λ r. and_then r (chunk_behind (take chunk.len bytes))) (line_longer bytes line chunk.len (omega (arith, two, room)) found.1)
         ∙ ap (λ t. cond t (Ok (record { len = line.len; is_last = true })) (when_whole (line_end (drop (line.len + line.size) (take chunk.len bytes))) (chunk_of line))) some_size
         ∙ ap (λ s. when_whole s (chunk_of line)) end
@@ -280,6 +295,7 @@ stays_up_to (suc k) bytes more h told = by (front_chunk bytes) refl (λ rest. st
       where
         there : front_chunk (bytes ++ more) ≡ Ok chunk
         there = chunk_stays bytes more (λ e. let bad : Ok chunk ≡ Err More = sym is ∙ e in cc bad) ∙ is
+
         last : (t : Bool) → chunk.is_last ≡ t → trailer_from (bytes ++ more) ≡ trailer_from bytes
         last true e = trailer_last (bytes ++ more) chunk there e ∙ sym (trailer_last bytes chunk is e)
         last false e =

@@ -41,8 +41,8 @@ walk_final part bytes at text found e x last walks =
     let here = subst (λ (t : List ℕ). IsWholeHead part t (Ok found)) e x in
     let head : HeadPlaces = here.0 in
     let final = walks (Ok (record { from = 0; to = found.len; body = found.body }))
-        (Final (drop at bytes) found.len head (Ok (record { from = 0; to = found.len; body = found.body })) here.1 (ap is_interim (sym here.2) ∙ last)
-        (ap (λ b. Ok (record { from = 0; to = found.len; body = b })) here.3)) in
+    (Final (drop at bytes) found.len head (Ok (record { from = 0; to = found.len; body = found.body })) here.1 (ap is_interim (sym here.2) ∙ last)
+    (ap (λ b. Ok (record { from = 0; to = found.len; body = b })) here.3)) in
     subst (λ (k : ℕ). IsFinalHead part bytes (Ok (record { from = k; to = at + found.len; body = found.body }))) (add-zero at) final
 
 pub walk_interim : (part : Part) (bytes : List ℕ) (at : ℕ) (text : List ℕ) (found : WholeHead) → text ≡ drop at bytes → IsWholeHead part text (Ok found) → is_interim found.status ≡ true → Walks part bytes at
@@ -51,6 +51,6 @@ walk_interim part bytes at text found e x interim walks later y =
     let here = subst (λ (t : List ℕ). IsWholeHead part t (Ok found)) e x in
     let head : HeadPlaces = here.0 in
     let z = walks (head_behind found.len later)
-        (Interim (drop at bytes) found.len head later (head_behind found.len later) here.1 (ap is_interim (sym here.2) ∙ interim)
-        (subst (λ (t : List ℕ). IsFinalHead part t later) (sym (drop-drop found.len at bytes)) y) refl) in
+    (Interim (drop at bytes) found.len head later (head_behind found.len later) here.1 (ap is_interim (sym here.2) ∙ interim)
+    (subst (λ (t : List ℕ). IsFinalHead part t later) (sym (drop-drop found.len at bytes)) y) refl) in
     subst (λ (r : Result FinalHead Scan). IsFinalHead part bytes r) (head_behind_twice at found.len later) z

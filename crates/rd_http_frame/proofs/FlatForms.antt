@@ -44,16 +44,22 @@ data_begins (suc k) bytes more h = by (data_line (size_line bytes)) refl (λ res
       where
         s : ℕ
         s = line.size
+
         d : List ℕ
         d = drop line.len bytes
+
         next : List ℕ
         next = drop (s + 2) d
+
         here : chunk_data bytes ≡ take s d ++ chunk_data next
         here = data_here bytes line is
+
         split : drop line.len (bytes ++ more) ≡ d ++ more
         split = drop-append-le line.len bytes more (line_fits bytes line (data_shows (size_line bytes) line is)).1
+
         there : chunk_data (bytes ++ more) ≡ take s (d ++ more) ++ chunk_data (drop (s + 2) (d ++ more))
         there = data_here (bytes ++ more) line (data_stays bytes more line is) ∙ ap (λ (t : List ℕ). take s t ++ chunk_data (drop (s + 2) t)) split
+
         by_room : (length d < s + 2) ⊎ (s + 2 ≤ length d) → (r : List ℕ) × (chunk_data (bytes ++ more) ≡ chunk_data bytes ++ r)
         by_room (inl short) =
             let tail = chunk_data (drop (s + 2) (d ++ more)) in
@@ -100,16 +106,22 @@ behind_begins head_request bytes more whole head order room =
   where
     rule : BodyRule
     rule = rule_in head_request head.body
+
     rest : List ℕ
     rest = drop head.to bytes
+
     front : List ℕ
     front = slice_range bytes head.from head.to
+
     inner : List ℕ
     inner = body_data rule rest
+
     body : (r : List ℕ) × (body_data rule (rest ++ more) ≡ body_data rule rest ++ r)
     body = body_begins rule rest more
+
     end : List ℕ
     end = if whole then with_length (trailer_of rule (rest ++ more)) else []
+
     split : drop head.to (bytes ++ more) ≡ rest ++ more
     split = drop-append-le head.to bytes more room
 

@@ -64,7 +64,7 @@ begins_itself part bytes len n head h x =
     let there = places_there part (take len bytes) len alone in
     let short : BeginsWith part (take len bytes) len there.0 = record { whole = alone; places = there.1 } in
     let back : BeginsWith part bytes len there.0 =
-        subst (λ (t : List ℕ). BeginsWith part t len there.0) (take_back bytes len) (begins_stays part (take len bytes) (drop len bytes) len there.0 short) in
+    subst (λ (t : List ℕ). BeginsWith part t len there.0) (take_back bytes len) (begins_stays part (take len bytes) (drop len bytes) len there.0 short) in
     let same : there.0 ≡ head = places_once part bytes there.0 head back.places x.places in
     subst (λ (t : List ℕ). BeginsWith part t len head) (sym (take_longer bytes len n h))
     (begins_stays part (take len bytes) (take (n - len) (drop len bytes)) len head (subst (λ (p : HeadPlaces). BeginsWith part (take len bytes) len p) same short))

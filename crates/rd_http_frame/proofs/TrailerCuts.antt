@@ -57,7 +57,7 @@ whole_section buf len (section.Open fits nothing may e) = absurd (not_unfinished
 section_made : (buf : List ℕ) (fields : List Field) (last : LineEnd) (rest : List ℕ) → ReadsSection buf fields last rest → length fields ≤ 100 → IsSectionScan buf (Whole (length (print_section fields last)))
 section_made buf fields last rest reads few =
     let feeds : trailer_feeds buf ≡ length fields + line_feeds fresh (print_end last ++ rest) =
-        ap (λ (t : List ℕ). trailer_feeds t) (reads.1 ∙ append_assoc _ (print_end last) rest) ∙ feeds-fields fields (print_end last ++ rest) reads.0 in
+    ap (λ (t : List ℕ). trailer_feeds t) (reads.1 ∙ append_assoc _ (print_end last) rest) ∙ feeds-fields fields (print_end last ++ rest) reads.0 in
     section.Complete (omega (arith, feeds, few, last_feeds last rest)) fields last rest reads few refl
 
 section_again : (buf : List ℕ) (len : ℕ) (w : WholeSection buf len) (text rest : List ℕ) → text ≡ print_section w.fields w.last ++ rest → IsSectionScan text (Whole len)

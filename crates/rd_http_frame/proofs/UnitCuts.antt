@@ -86,6 +86,7 @@ unit_hopeless part head_request before ended bytes more len x y = by x.0 x.1 x.2
   where
     w : WholeUnit part head_request ended (bytes ++ more) len
     w = whole_unit part head_request ended (bytes ++ more) len y
+
     by : (r : Result FinalHead Scan) → IsFinalHead part bytes r → IsScanBehind head_request before bytes r Bad → ⊥
     by (Err stop) f z = final_hopeless part bytes more (Err stop) (Ok w.head) w.head f (ap Err (sym z)) w.found refl
     by (Ok head) f z =
@@ -100,21 +101,21 @@ unit_hopeless part head_request before ended bytes more len x y = by x.0 x.1 x.2
 
 pub unit_framing : (part : Part) (head_request : Bool) → IsUnitFraming (λ ended. IsUnitScan part head_request ended)
 unit_framing part head_request = record {
-      some_bytes = λ ended bytes len x. unit_some part head_request ended bytes len x;
-      within = λ ended bytes len x. unit_within part head_request ended bytes len x;
-      itself = λ ended bytes len x. unit_itself part head_request ended bytes len x;
-      stays = λ ended bytes more len x. unit_stays part head_request ended bytes more len x;
-      hopeless = λ before ended bytes more len x y. unit_hopeless part head_request before ended bytes more len x y;
-    }
+  some_bytes = λ ended bytes len x. unit_some part head_request ended bytes len x;
+  within = λ ended bytes len x. unit_within part head_request ended bytes len x;
+  itself = λ ended bytes len x. unit_itself part head_request ended bytes len x;
+  stays = λ ended bytes more len x. unit_stays part head_request ended bytes more len x;
+  hopeless = λ before ended bytes more len x y. unit_hopeless part head_request before ended bytes more len x y;
+}
 
 pub request_framing : IsUnitFraming (λ _. IsWholeRequestScan)
 request_framing = record {
-      some_bytes = λ ended bytes len x. unit_some Request false false bytes len x;
-      within = λ ended bytes len x. unit_within Request false false bytes len x;
-      itself = λ ended bytes len x. unit_itself Request false false bytes len x;
-      stays = λ ended bytes more len x. unit_stays Request false false bytes more len x;
-      hopeless = λ before ended bytes more len x y. unit_hopeless Request false false false bytes more len x y;
-    }
+  some_bytes = λ ended bytes len x. unit_some Request false false bytes len x;
+  within = λ ended bytes len x. unit_within Request false false bytes len x;
+  itself = λ ended bytes len x. unit_itself Request false false bytes len x;
+  stays = λ ended bytes more len x. unit_stays Request false false bytes more len x;
+  hopeless = λ before ended bytes more len x y. unit_hopeless Request false false false bytes more len x y;
+}
 
 pub shown_once : (reply : List ℕ) (a b : ℕ) → IsShownFrom reply a → IsShownFrom reply b → a ≡ b
 shown_once reply a b x y =

@@ -26,11 +26,11 @@ head_behind before (Err scan) = Err scan
 -- where the final head is, behind any number of interim ones, or what the bytes come to without it
 pub data IsFinalHead (part : Part) : List ℕ → Result FinalHead Scan → Type 0 where
   Missing : (bytes : List ℕ) (scan : Scan) (found : Result FinalHead Scan)
-    → IsHeadScan part bytes scan → is_whole scan ≡ false → found ≡ Err scan → IsFinalHead part bytes found
+      → IsHeadScan part bytes scan → is_whole scan ≡ false → found ≡ Err scan → IsFinalHead part bytes found
   Interim : (bytes : List ℕ) (len : ℕ) (head : HeadPlaces) (later found : Result FinalHead Scan)
-    → BeginsWith part bytes len head → is_interim head.status ≡ true → IsFinalHead part (drop len bytes) later → found ≡ head_behind len later → IsFinalHead part bytes found
+      → BeginsWith part bytes len head → is_interim head.status ≡ true → IsFinalHead part (drop len bytes) later → found ≡ head_behind len later → IsFinalHead part bytes found
   Final : (bytes : List ℕ) (len : ℕ) (head : HeadPlaces) (found : Result FinalHead Scan)
-    → BeginsWith part bytes len head → is_interim head.status ≡ false → found ≡ Ok (record { from = 0; to = len; body = head.body }) → IsFinalHead part bytes found
+      → BeginsWith part bytes len head → is_interim head.status ≡ false → found ≡ Ok (record { from = 0; to = len; body = head.body }) → IsFinalHead part bytes found
 
 -- so many bytes before
 abbrev pub behind : ℕ → Scan → Scan

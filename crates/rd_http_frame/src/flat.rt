@@ -58,12 +58,7 @@ fn push_flat(
 }
 
 /// Appends the body, and a whole one's trailer with its length.
-fn push_body(
-    rule: BodyRule,
-    bytes: &[u8],
-    whole: bool,
-    out: &mut Bytes,
-) -> Result<(), NoMemory>
+fn push_body(rule: BodyRule, bytes: &[u8], whole: bool, out: &mut Bytes) -> Result<(), NoMemory>
     ensures ok { OnOk result (out.new ≡ out.old ++ flat_body rule bytes.now whole) }
     ensures err { OnErr result (IsPrefixOf out.old out.new) }
 {

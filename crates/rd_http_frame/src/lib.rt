@@ -22,3 +22,5 @@ pub use unit::{scan_reply, scan_request, shown_from};
 
 #[cfg(test)]
 mod tests;
+#[cfg(test)]
+mod unit_tests;

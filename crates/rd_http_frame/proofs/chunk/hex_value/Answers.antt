@@ -22,9 +22,9 @@ overflow_add-size c =
 
 pub digits-preserved : goal.digits-preserved
 digits-preserved c = (
-      digit_more c.digits.size c.digit_value.result c.digits.i c.digits.invariant.0 c.digit_value.ensures.small,
-      rw (digits_value_more 16 c.args.digits.now c.digits.i c.digits-test.true, ← c.digits.invariant.1, ← c.digit_value.ensures.value) refl,
-    )
+  digit_more c.digits.size c.digit_value.result c.digits.i c.digits.invariant.0 c.digit_value.ensures.small,
+  rw (digits_value_more 16 c.args.digits.now c.digits.i c.digits-test.true, ← c.digits.invariant.1, ← c.digit_value.ensures.value) refl,
+)
 
 pub returns-clause-small : goal.returns-clause-small
 returns-clause-small c =

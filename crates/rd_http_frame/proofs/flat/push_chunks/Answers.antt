@@ -15,7 +15,7 @@ loop-line-preserved c =
     let out = c.loop-line.out in
     let made = c.push_slice.new.self in
     let pushed : made ≡ out ++ take line.size (drop line.len rest) =
-        c.in_ok-push_slice.ensures.ok ∙ ap (λ (t : List ℕ). out ++ t) (c.front.ensures ∙ ap (λ (t : List ℕ). take line.size t) c.behind_front-data.ensures) in
+    c.in_ok-push_slice.ensures.ok ∙ ap (λ (t : List ℕ). out ++ t) (c.front.ensures ∙ ap (λ (t : List ℕ). take line.size t) c.behind_front-data.ensures) in
     let after = c.behind_front-rest.ensures ∙ ap (λ (t : List ℕ). drop (line.size + 2) t) c.behind_front-data.ensures in
     record {
       same = data_pushed c.args.out.now out made c.args.bytes.now rest c.behind_front-rest.result.now c.front.result.now line
