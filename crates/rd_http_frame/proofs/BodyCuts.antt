@@ -29,20 +29,20 @@ behind_bad before (Unsupported code) e = absurd (cc e)
 
 -- ---- chunks and a trailer
 
-record WholeChunked (bytes : List ℕ) (len : ℕ) : Type 0 where
-  at : ℕ
-  is : trailer_from bytes ≡ Ok at
-  size : ℕ
-  trailer : IsTrailerScan (drop at bytes) (Whole size)
-  sum : len ≡ at + size
+pub record WholeChunked (bytes : List ℕ) (len : ℕ) : Type 0 where
+  pub at : ℕ
+  pub is : trailer_from bytes ≡ Ok at
+  pub size : ℕ
+  pub trailer : IsTrailerScan (drop at bytes) (Whole size)
+  pub sum : len ≡ at + size
 
-whole_chunked : (bytes : List ℕ) (len : ℕ) (r : Result ℕ Scan) → trailer_from bytes ≡ r → IsTrailerBehind bytes r (Whole len) → WholeChunked bytes len
+pub whole_chunked : (bytes : List ℕ) (len : ℕ) (r : Result ℕ Scan) → trailer_from bytes ≡ r → IsTrailerBehind bytes r (Whole len) → WholeChunked bytes len
 whole_chunked bytes len (Ok place) e x =
     let w = behind_whole place x.0 len x.2 in
     record { at = place; is = e; size = w.0; trailer = subst (λ (s : Scan). IsTrailerScan (drop place bytes) s) w.1 x.1; sum = w.2 }
 whole_chunked bytes len (Err stop) e x = absurd (trailer_never bytes stop len e (sym x))
 
-chunked_made : (bytes : List ℕ) (at size len : ℕ) → trailer_from bytes ≡ Ok at → IsTrailerScan (drop at bytes) (Whole size) → len ≡ at + size → IsTrailerBehind bytes (trailer_from bytes) (Whole len)
+pub chunked_made : (bytes : List ℕ) (at size len : ℕ) → trailer_from bytes ≡ Ok at → IsTrailerScan (drop at bytes) (Whole size) → len ≡ at + size → IsTrailerBehind bytes (trailer_from bytes) (Whole len)
 chunked_made bytes at size len e x sum =
     subst (λ (r : Result ℕ Scan). IsTrailerBehind bytes r (Whole len)) (sym e) (Whole size, x, ap Whole sum)
 
@@ -87,14 +87,14 @@ chunked_hopeless bytes more len (Err stop) e x w =
 
 -- ---- so many bytes
 
-sized_shows : (size n len : ℕ) → Whole len ≡ cond (nat_le size n) (Whole size) More → (len ≡ size) × (size ≤ n)
+pub sized_shows : (size n len : ℕ) → Whole len ≡ cond (nat_le size n) (Whole size) More → (len ≡ size) × (size ≤ n)
 sized_shows size n len e = by (leb size n) refl e
   where
     by : (t : Bool) → leb size n ≡ t → Whole len ≡ cond t (Whole size) More → (len ≡ size) × (size ≤ n)
     by true is q = (cc q, leb-true size n is)
     by false is q = absurd (cc q)
 
-sized_made : (size n len : ℕ) → len ≡ size → size ≤ n → Whole len ≡ cond (nat_le size n) (Whole size) More
+pub sized_made : (size n len : ℕ) → len ≡ size → size ≤ n → Whole len ≡ cond (nat_le size n) (Whole size) More
 sized_made size n len e h = ap Whole e ∙ sym (ap (λ t. cond t (Whole size) More) (le-leb size n h))
 
 never_bad : (t : Bool) (len : ℕ) → Bad ≡ cond t (Whole len) More → ⊥

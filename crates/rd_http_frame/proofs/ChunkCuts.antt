@@ -102,7 +102,7 @@ size_line_stays (b ∷ bytes) more told = by (cases_lt n (length text))
         at_least true most e = omega (arith, e, most)
         at_least false most e = omega (arith, e)
 
-abbrev chunk_of : SizeLine → ℕ → Chunk
+abbrev pub chunk_of : SizeLine → ℕ → Chunk
 chunk_of line end = record { len = line.len + line.size + end; is_last = false }
 
 behind_stays : (bytes more : List ℕ) (line : SizeLine) → Stays (chunk_behind bytes line) (chunk_behind (bytes ++ more) line)
@@ -129,7 +129,7 @@ chunk_stays bytes more =
     (λ line is. behind_stays bytes more line)
 
 -- what shows is there
-line_made : (bytes : List ℕ) (line : SizeLine) → ShowsLine bytes line → size_line bytes ≡ Ok line
+pub line_made : (bytes : List ℕ) (line : SizeLine) → ShowsLine bytes line → size_line bytes ≡ Ok line
 line_made [] line shown = absurd (false≢true (ap (λ k. nat_le 1 k && nat_le k 8) shown.digits ∙ shown.counted))
 line_made (b ∷ bytes) line shown =
     let n = shown.count in
@@ -223,11 +223,11 @@ chunk_longer bytes chunk n h e =
     ∙ chunk_stays (take chunk.len bytes) (take (n - chunk.len) (drop chunk.len bytes)) (λ more. let bad : Ok chunk ≡ Err More = sym alone ∙ more in cc bad)
     ∙ alone
 
-trailer_last : (bytes : List ℕ) (chunk : Chunk) → front_chunk bytes ≡ Ok chunk → chunk.is_last ≡ true → trailer_from bytes ≡ Ok chunk.len
+pub trailer_last : (bytes : List ℕ) (chunk : Chunk) → front_chunk bytes ≡ Ok chunk → chunk.is_last ≡ true → trailer_from bytes ≡ Ok chunk.len
 trailer_last bytes chunk e last =
     trailer_step bytes ∙ ap (λ r. and_then r (trailer_behind bytes)) e ∙ ap (λ t. cond t (Ok chunk.len) (further chunk.len (trailer_from (drop chunk.len bytes)))) last
 
-trailer_inner : (bytes : List ℕ) (chunk : Chunk) → front_chunk bytes ≡ Ok chunk → chunk.is_last ≡ false → trailer_from bytes ≡ further chunk.len (trailer_from (drop chunk.len bytes))
+pub trailer_inner : (bytes : List ℕ) (chunk : Chunk) → front_chunk bytes ≡ Ok chunk → chunk.is_last ≡ false → trailer_from bytes ≡ further chunk.len (trailer_from (drop chunk.len bytes))
 trailer_inner bytes chunk e inner =
     trailer_step bytes ∙ ap (λ r. and_then r (trailer_behind bytes)) e ∙ ap (λ t. cond t (Ok chunk.len) (further chunk.len (trailer_from (drop chunk.len bytes)))) inner
 
@@ -236,11 +236,11 @@ further_ok n (Ok m) at e = (m, refl, cc (sym e))
 further_ok n (Err scan) at e = absurd (cc e)
 
 -- the first chunk is the last, or others follow it
-abbrev ChunkCases : List ℕ → ℕ → Chunk → Type 0
+abbrev pub ChunkCases : List ℕ → ℕ → Chunk → Type 0
 ChunkCases bytes at chunk =
     ((chunk.is_last ≡ true) × (at ≡ chunk.len)) ⊎ ((m : ℕ) × (chunk.is_last ≡ false) × (trailer_from (drop chunk.len bytes) ≡ Ok m) × (at ≡ chunk.len + m))
 
-trailer_cases : (bytes : List ℕ) (at : ℕ) → trailer_from bytes ≡ Ok at → (chunk : Chunk) × (front_chunk bytes ≡ Ok chunk) × ChunkCases bytes at chunk
+pub trailer_cases : (bytes : List ℕ) (at : ℕ) → trailer_from bytes ≡ Ok at → (chunk : Chunk) × (front_chunk bytes ≡ Ok chunk) × ChunkCases bytes at chunk
 trailer_cases bytes at e =
     let first = then_ok (front_chunk bytes) (trailer_behind bytes) at (sym (trailer_step bytes) ∙ e) in
     (first.0, first.1, by first.0 first.0.is_last refl first.2)
@@ -251,7 +251,7 @@ trailer_cases bytes at e =
     by chunk false inner q = let more = further_ok chunk.len (trailer_from (drop chunk.len bytes)) at q in inr (more.0, inner, more.1, more.2)
 
 -- behind a chunk there are fewer bytes
-fewer : (k : ℕ) (bytes : List ℕ) (chunk : Chunk) → length bytes ≤ suc k → front_chunk bytes ≡ Ok chunk → length (drop chunk.len bytes) ≤ k
+pub fewer : (k : ℕ) (bytes : List ℕ) (chunk : Chunk) → length bytes ≤ suc k → front_chunk bytes ≡ Ok chunk → length (drop chunk.len bytes) ≤ k
 fewer k bytes chunk h e = let fits = chunk_fits bytes chunk e in omega (arith, fits.0, fits.1, length-drop chunk.len bytes, h)
 
 within_up_to : (k : ℕ) (bytes : List ℕ) (at : ℕ) → length bytes ≤ k → trailer_from bytes ≡ Ok at → at ≤ length bytes

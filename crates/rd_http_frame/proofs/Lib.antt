@@ -20,3 +20,5 @@ pub mod BodyCuts
 pub mod UnitCuts
 pub mod ChunkData
 pub mod FlatForms
+pub mod ChunkForms
+pub mod WholeUnits

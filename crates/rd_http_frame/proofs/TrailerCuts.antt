@@ -40,21 +40,21 @@ section_once bytes a b (section.Open fits none may e) (section.Open ff n m f) = 
 pub trailer_once : (bytes : List ℕ) (a b : Scan) → IsTrailerScan bytes a → IsTrailerScan bytes b → a ≡ b
 trailer_once bytes a b x y = section_once (seen bytes) a b x y
 
-record WholeSection (buf : List ℕ) (len : ℕ) : Type 0 where
-  fields : List Field
-  last : LineEnd
-  rest : List ℕ
-  reads : ReadsSection buf fields last rest
-  few : length fields ≤ 100
-  is : len ≡ length (print_section fields last)
+pub record WholeSection (buf : List ℕ) (len : ℕ) : Type 0 where
+  pub fields : List Field
+  pub last : LineEnd
+  pub rest : List ℕ
+  pub reads : ReadsSection buf fields last rest
+  pub few : length fields ≤ 100
+  pub is : len ≡ length (print_section fields last)
 
-whole_section : (buf : List ℕ) (len : ℕ) → IsSectionScan buf (Whole len) → WholeSection buf len
+pub whole_section : (buf : List ℕ) (len : ℕ) → IsSectionScan buf (Whole len) → WholeSection buf len
 whole_section buf len (section.ManyLines over e) = absurd (cc e)
 whole_section buf len (section.Complete fits fs end more found fw e) = record { fields = fs; last = end; rest = more; reads = found; few = fw; is = cc e }
 whole_section buf len (section.Hopeless fits never e) = absurd (cc e)
 whole_section buf len (section.Open fits nothing may e) = absurd (not_unfinished buf len e)
 
-section_made : (buf : List ℕ) (fields : List Field) (last : LineEnd) (rest : List ℕ) → ReadsSection buf fields last rest → length fields ≤ 100 → IsSectionScan buf (Whole (length (print_section fields last)))
+pub section_made : (buf : List ℕ) (fields : List Field) (last : LineEnd) (rest : List ℕ) → ReadsSection buf fields last rest → length fields ≤ 100 → IsSectionScan buf (Whole (length (print_section fields last)))
 section_made buf fields last rest reads few =
     let feeds : trailer_feeds buf ≡ length fields + line_feeds fresh (print_end last ++ rest) =
     ap (λ (t : List ℕ). trailer_feeds t) (reads.1 ∙ append_assoc _ (print_end last) rest) ∙ feeds-fields fields (print_end last ++ rest) reads.0 in

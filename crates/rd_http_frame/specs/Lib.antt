@@ -10,3 +10,4 @@ pub mod Units
 pub mod UnitLaws
 pub mod Flats
 pub mod FlatLaws
+pub mod WholeUnits

@@ -14,3 +14,8 @@ pub record IsUnitFraming (Is : Bool → List ℕ → Scan → Type 0) : Type 0 w
   pub stays : (ended : Bool) (bytes more : List ℕ) (len : ℕ) → Is false bytes (Whole len) → Is ended (bytes ++ more) (Whole len)
   -- bytes that begin no unit begin none however they go on
   pub hopeless : (before ended : Bool) (bytes more : List ℕ) (len : ℕ) → Is before bytes Bad → Is ended (bytes ++ more) (Whole len) → ⊥
+
+-- a scan finds the units: it is whole exactly where the bytes begin with one
+pub record FindsUnits (IsUnit : Bool → List ℕ → Type 0) (Is : Bool → List ℕ → Scan → Type 0) : Type 0 where
+  pub whole : (ended : Bool) (bytes : List ℕ) (len : ℕ) → Is ended bytes (Whole len) → IsUnit ended (take len bytes)
+  pub found : (ended : Bool) (unit : List ℕ) → IsUnit ended unit → Is ended unit (Whole (length unit))

@@ -2,7 +2,8 @@ ghost use Rattle.std.specs.Prelude.{◌≡◌, ◌≤◌, ◌<◌, ℕ, Bool, �
 ghost use Rattle.rd_base.specs.declared.values.Scan.TheVariants.{Whole};
 ghost use Rattle.rd_base.specs.declared.values.Scan.{Scan};
 ghost use Rattle.rd_http_frame.specs.Units.{is_interim, IsFinalHead, behind, IsTrailerBehind, IsBodyScan, rule_in, IsUnitScan, IsWholeRequestScan, IsWholeReplyScan, IsShownFrom};
-ghost use Rattle.rd_http_frame.specs.UnitLaws.{IsUnitFraming};
+ghost use Rattle.rd_http_frame.specs.UnitLaws.{IsUnitFraming, FindsUnits};
+ghost use Rattle.rd_http_frame.specs.WholeUnits.{IsRequest, IsReply};
 ghost use Rattle.rd_http_frame.specs.Chunks.{trailer_from};
 
 use crate::body::BodyRule;
@@ -21,6 +22,9 @@ pub fn scan_request(bytes: &[u8]) -> Scan
     // The definition is met by this answer alone.
     ensures only { (other : Scan) → IsWholeRequestScan bytes.now other → other ≡ result }
 
+    // It is whole exactly where the bytes begin with a request, and has its length.
+    ensures units { FindsUnits (λ _. IsRequest) (λ _. IsWholeRequestScan) }
+
     // No request begins another, and hopeless bytes begin none, whatever follows.
     ensures framing { IsUnitFraming (λ _. IsWholeRequestScan) }
 {
@@ -37,6 +41,9 @@ pub fn scan_reply(head_request: bool, bytes: &[u8], ended: bool) -> Scan
 
     // The definition is met by this answer alone.
     ensures only { (other : Scan) → IsWholeReplyScan head_request ended bytes.now other → other ≡ result }
+
+    // It is whole exactly where the bytes begin with a reply, and has its length.
+    ensures units { FindsUnits (IsReply head_request) (IsWholeReplyScan head_request) }
 
     // No reply begins another, but one that is read until its link ends; hopeless bytes begin none.
     ensures framing { IsUnitFraming (IsWholeReplyScan head_request) }

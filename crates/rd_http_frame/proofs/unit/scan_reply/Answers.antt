@@ -1,5 +1,6 @@
 use Rattle.rd_base.specs.declared.values.Part.TheVariants.{Reply}
 use Rattle.rd_http_frame.proofs.UnitCuts.{unit_once, unit_framing}
+use Rattle.rd_http_frame.proofs.WholeUnits.{finds_replies}
 use Rattle.rd_http_frame.proofs.unit.scan_reply.Goals as goal
 
 pub returns-clause-only : goal.returns-clause-only
@@ -8,3 +9,6 @@ returns-clause-only c =
 
 pub returns-clause-framing : goal.returns-clause-framing
 returns-clause-framing c = unit_framing Reply c.args.head_request
+
+pub returns-clause-units : goal.returns-clause-units
+returns-clause-units c = finds_replies c.args.head_request
