@@ -1,5 +1,5 @@
 -- Bodies are cut in one way.
-use Rattle.std.proofs.Common.{◌≡◌, ◌≢◌, ℕ, ◌+◌, ◌-◌, ◌<◌, ◌≤◌, Bool, true, false, cond, leb, nat_le, List, ◌++◌, length, take, drop, length-take, length-drop, length-append, Result, Ok, Err, refl, sym, ap, ◌∙◌, subst, arith}
+use Rattle.std.proofs.Common.{◌≡◌, ℕ, ◌+◌, ◌≤◌, Bool, true, false, cond, leb, nat_le, List, ◌++◌, length, take, drop, length-take, length-drop, length-append, Result, Ok, Err, refl, sym, ap, ◌∙◌, subst, arith}
 use Rattle.std.proofs.lemmas.Bool.{leb-true, le-leb}
 use Rattle.std.proofs.lemmas.List.{drop-append-le, drop-take, length-take-le}
 use Rattle.rd_base.specs.declared.values.Scan.{Scan}

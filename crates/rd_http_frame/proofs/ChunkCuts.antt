@@ -1,6 +1,6 @@
 -- Chunks are cut in one way.
-use Rattle.std.proofs.Common.{◌≡◌, ◌≢◌, ℕ, zero, suc, ◌+◌, ◌-◌, ◌<◌, ◌≤◌, Bool, true, false, cond, ◌&&◌, ◌==◌, nat_le, List, [], ◌∷◌, ◌++◌, length, take, drop, length-drop, length-take, length-append, take-add, Result, Ok, Err, refl, sym, ap, ◌∙◌, subst, arith, inl, inr, ◌⊎◌}
-use Rattle.std.proofs.lemmas.Bool.{eqb-true, ne_eqb, cases_lt, false≢true}
+use Rattle.std.proofs.Common.{◌≡◌, ◌≢◌, ℕ, zero, suc, ◌+◌, ◌-◌, ◌<◌, ◌≤◌, Bool, true, false, cond, ◌&&◌, ◌==◌, nat_le, List, [], ◌∷◌, ◌++◌, length, take, drop, length-drop, length-take, Result, Ok, Err, refl, sym, ap, ◌∙◌, arith, inl, inr, ◌⊎◌}
+use Rattle.std.proofs.lemmas.Bool.{ne_eqb, cases_lt, false≢true}
 use Rattle.std.proofs.lemmas.Bool.Decides.{nat_tests}
 use Rattle.std.proofs.lemmas.List.{take-append-le, drop-append-le, drop-take, take-take, drop_all, take-append-drop}
 use Rattle.std.proofs.lemmas.List.Sums.{prefix_len-le-length}
@@ -9,11 +9,11 @@ use Rattle.std.specs.List.{prefix_len}
 use Rattle.std.specs.Char.{is_ascii_hexdigit}
 use Rattle.std.specs.Str.Parse.{digits_value}
 use Rattle.rd_base.specs.declared.values.Scan.{Scan}
-use Rattle.rd_base.specs.declared.values.Scan.TheVariants.{Whole, More, Bad, TooBig, Unsupported}
+use Rattle.rd_base.specs.declared.values.Scan.TheVariants.{Whole, More, Bad}
 use Rattle.rd_http_frame.specs.declared.chunk.SizeLine.{SizeLine}
 use Rattle.rd_http_frame.specs.declared.chunk.Chunk.{Chunk}
 use Rattle.rd_http_frame.specs.Chunks.{line_feed, line_end, when_whole, and_then, digits_line, size_line, chunk_behind, front_chunk, further, trailer_from}
-use Rattle.rd_http_frame.proofs.ChunkSteps.{EndsLine, ShowsLine, line_end_shows, size_line_shows, line_fits, chunk_fits, then_ok, when_ok, trailer_step, trailer_behind}
+use Rattle.rd_http_frame.proofs.ChunkSteps.{EndsLine, ShowsLine, line_end_shows, size_line_shows, chunk_fits, then_ok, when_ok, trailer_step, trailer_behind}
 use Rattle.rd_http_frame.proofs.HeadOnce.{take_longer}
 
 -- what is told stays, whatever follows

@@ -1,5 +1,5 @@
 -- The data of chunks, one at a time.
-use Rattle.std.proofs.Common.{◌≡◌, ℕ, zero, suc, ◌+◌, ◌-◌, ◌<◌, ◌≤◌, Bool, true, false, cond, ◌==◌, List, [], ◌∷◌, ◌++◌, length, take, drop, length-drop, Result, Ok, Err, Option, Some, None, refl, sym, ap, ◌∙◌, subst, arith, append_assoc}
+use Rattle.std.proofs.Common.{◌≡◌, ℕ, zero, suc, ◌+◌, ◌<◌, ◌≤◌, Bool, true, false, cond, ◌==◌, List, [], ◌∷◌, ◌++◌, length, take, drop, length-drop, Result, Ok, Err, Option, Some, None, refl, sym, ap, ◌∙◌, arith, append_assoc}
 use Rattle.rd_base.specs.declared.values.Scan.{Scan}
 use Rattle.rd_http_frame.specs.declared.chunk.SizeLine.{SizeLine}
 use Rattle.rd_http_frame.specs.Chunks.{size_line, data_line, data_behind, data_up_to, chunk_data}

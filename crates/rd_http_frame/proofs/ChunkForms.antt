@@ -1,5 +1,5 @@
 -- A chunked body is what the walk over chunks finds.
-use Rattle.std.proofs.Common.{◌≡◌, ◌≢◌, ℕ, zero, suc, ◌+◌, ◌-◌, ◌<◌, ◌≤◌, ◌⊎◌, inl, inr, Bool, true, false, cond, ◌&&◌, ◌==◌, nat_le, leb, List, [], ◌∷◌, ◌++◌, length, take, drop, length-take, length-drop, length-append, drop-drop, take-add, append_assoc, append-nil, Result, Ok, Err, refl, sym, ap, ◌∙◌, subst, arith}
+use Rattle.std.proofs.Common.{◌≡◌, ℕ, zero, suc, ◌+◌, ◌<◌, ◌≤◌, inl, inr, Bool, true, false, cond, ◌&&◌, ◌==◌, nat_le, List, [], ◌∷◌, ◌++◌, length, take, drop, length-take, length-drop, length-append, drop-drop, take-add, append_assoc, append-nil, Ok, refl, sym, ap, ◌∙◌, subst, arith}
 use Rattle.std.proofs.lemmas.Bool.{leb-true, le-leb, and_parts, eqb-true, ne_eqb, false≢true}
 use Rattle.std.proofs.lemmas.List.{take-append-drop, take_all}
 use Rattle.std.proofs.lemmas.List.Folds.{length-prefix_len}
@@ -8,16 +8,15 @@ use Rattle.std.specs.List.{prefix_len, list_all}
 use Rattle.std.specs.Char.{is_ascii_hexdigit}
 use Rattle.std.specs.Str.Parse.{digits_value}
 use Rattle.httparse.specs.Grammar.{print_section}
-use Rattle.rd_base.specs.declared.values.Scan.{Scan}
-use Rattle.rd_base.specs.declared.values.Scan.TheVariants.{Whole, More, Bad}
+use Rattle.rd_base.specs.declared.values.Scan.TheVariants.{Whole}
 use Rattle.rd_http_frame.specs.declared.chunk.SizeLine.{SizeLine}
 use Rattle.rd_http_frame.specs.declared.chunk.Chunk.{Chunk}
 use Rattle.rd_http_frame.specs.Heads.{seen}
 use Rattle.rd_http_frame.specs.Chunks.{line_end, when_whole, and_then, size_line, chunk_behind, front_chunk, further, trailer_from}
-use Rattle.rd_http_frame.specs.Trailers.{IsSectionScan, IsTrailerScan}
+use Rattle.rd_http_frame.specs.Trailers.{IsTrailerScan}
 use Rattle.rd_http_frame.specs.WholeUnits.{IsSizeLine, IsTrailer, IsChunked}
 use Rattle.rd_http_frame.specs.WholeUnits.{IsChunked as chunked}
-use Rattle.rd_http_frame.proofs.ChunkSteps.{EndsLine, ShowsLine, line_end_shows, size_line_shows, line_fits, chunk_fits, then_ok, when_ok}
+use Rattle.rd_http_frame.proofs.ChunkSteps.{EndsLine, line_end_shows, size_line_shows, line_fits, chunk_fits, then_ok, when_ok}
 use Rattle.rd_http_frame.proofs.ChunkCuts.{ChunkCases, chunk_of, line_made, trailer_cases, trailer_last, trailer_inner, fewer}
 use Rattle.rd_http_frame.proofs.TrailerCuts.{whole_section, section_made, trailer_within}
 
@@ -192,14 +191,14 @@ chunked_back bytes (chunked.Chunk line content rest b first some more e) =
     let chunk : Chunk = record { len = L + S + 2; is_last = false } in
     let after : drop (L + S) text ≡ 13 ∷ 10 ∷ rest = drop-append-add line (content ++ 13 ∷ 10 ∷ rest) S ∙ drop-append_seam content (13 ∷ 10 ∷ rest) in
     let is : front_chunk bytes ≡ Ok chunk =
-        ap front_chunk e ∙ ap (λ r. and_then r (chunk_behind text)) (line_back S line (content ++ 13 ∷ 10 ∷ rest) first)
-        ∙ ap (λ t. cond t (Ok (record { len = L; is_last = true })) (when_whole (line_end (drop (L + S) text)) (λ end. record { len = L + S + end; is_last = false }))) (ne_eqb S 0 (λ z. omega (arith, z, some)))
-        ∙ ap (λ t. when_whole (line_end t) (λ end. record { len = L + S + end; is_last = false })) after in
+    ap front_chunk e ∙ ap (λ r. and_then r (chunk_behind text)) (line_back S line (content ++ 13 ∷ 10 ∷ rest) first)
+    ∙ ap (λ t. cond t (Ok (record { len = L; is_last = true })) (when_whole (line_end (drop (L + S) text)) (λ end. record { len = L + S + end; is_last = false }))) (ne_eqb S 0 (λ z. omega (arith, z, some)))
+    ∙ ap (λ t. when_whole (line_end t) (λ end. record { len = L + S + end; is_last = false })) after in
     let behind : drop (L + S + 2) bytes ≡ rest = ap (λ t. drop (L + S + 2) t) e ∙ sym (drop-drop 2 (L + S) text) ∙ ap (drop 2) after in
     let later = chunked_back rest more in
     let size : length bytes ≡ L + S + 2 + length rest =
-        let inner : length (content ++ 13 ∷ 10 ∷ rest) ≡ S + suc (suc (length rest)) = length-append content (13 ∷ 10 ∷ rest) in
-        omega (arith, ap length e, length-append line (content ++ 13 ∷ 10 ∷ rest), inner) in (
+    let inner : length (content ++ 13 ∷ 10 ∷ rest) ≡ S + suc (suc (length rest)) = length-append content (13 ∷ 10 ∷ rest) in
+    omega (arith, ap length e, length-append line (content ++ 13 ∷ 10 ∷ rest), inner) in (
       L + S + 2 + later.0,
       later.1,
       (

@@ -1,11 +1,11 @@
 -- The walk over interim heads.
-use Rattle.std.proofs.Common.{◌≡◌, ℕ, ◌+◌, ◌<◌, ◌≤◌, Bool, true, false, List, length, drop, drop-drop, Result, Ok, Err, refl, sym, ap, ◌∙◌, subst, arith, add_assoc, add-zero}
+use Rattle.std.proofs.Common.{◌≡◌, ℕ, ◌+◌, true, false, List, drop, drop-drop, Result, Ok, Err, refl, sym, ap, ◌∙◌, subst, arith, add_assoc, add-zero}
 use Rattle.rd_base.specs.declared.values.Scan.{Scan}
 use Rattle.rd_base.specs.declared.values.Part.{Part}
 use Rattle.rd_http_frame.specs.declared.scan.WholeHead.{WholeHead}
 use Rattle.rd_http_frame.specs.declared.unit.FinalHead.{FinalHead}
 use Rattle.rd_http_frame.specs.Places.{HeadPlaces}
-use Rattle.rd_http_frame.specs.WholeHeads.{BeginsWith, IsWholeHead}
+use Rattle.rd_http_frame.specs.WholeHeads.{IsWholeHead}
 use Rattle.rd_http_frame.specs.Units.{IsFinalHead, head_behind, is_interim}
 use Rattle.rd_http_frame.specs.Units.IsFinalHead.{Missing, Interim, Final}
 

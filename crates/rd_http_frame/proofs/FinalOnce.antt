@@ -1,19 +1,18 @@
 -- A final head is one, however many bytes follow it.
-use Rattle.std.proofs.Common.{◌≡◌, ℕ, ◌+◌, ◌-◌, ◌<◌, ◌≤◌, Bool, true, false, List, ◌++◌, length, take, drop, length-drop, Result, Ok, Err, refl, sym, ap, ◌∙◌, subst, arith}
+use Rattle.std.proofs.Common.{◌≡◌, ℕ, ◌+◌, ◌-◌, ◌<◌, ◌≤◌, true, false, List, ◌++◌, length, take, drop, length-drop, Result, Ok, Err, refl, sym, ap, ◌∙◌, subst, arith}
 use Rattle.std.proofs.lemmas.Bool.{false≢true}
 use Rattle.std.proofs.lemmas.List.{drop-append-le, drop-take}
 use Rattle.rd_base.specs.declared.values.Scan.{Scan}
-use Rattle.rd_base.specs.declared.values.Scan.TheVariants.{Whole, More, Bad, TooBig, Unsupported}
+use Rattle.rd_base.specs.declared.values.Scan.TheVariants.{Bad}
 use Rattle.rd_base.specs.declared.values.Part.{Part}
-use Rattle.rd_http_frame.specs.declared.body.BodyRule.{BodyRule}
 use Rattle.rd_http_frame.specs.declared.unit.FinalHead.{FinalHead}
 use Rattle.rd_http_frame.specs.Places.{HeadPlaces}
 use Rattle.rd_http_frame.specs.Heads.{IsHeadScan}
 use Rattle.rd_http_frame.proofs.WholeHeads.{begins_fits}
-use Rattle.rd_http_frame.specs.WholeHeads.{BeginsWith, is_whole}
+use Rattle.rd_http_frame.specs.WholeHeads.{is_whole}
 use Rattle.rd_http_frame.specs.Units.{IsFinalHead, head_behind, is_interim}
 use Rattle.rd_http_frame.specs.Units.{IsFinalHead as found_of}
-use Rattle.rd_http_frame.specs.Units.IsFinalHead.{Missing, Interim, Final}
+use Rattle.rd_http_frame.specs.Units.IsFinalHead.{Interim, Final}
 use Rattle.rd_http_frame.proofs.Unique.{head_once}
 use Rattle.rd_http_frame.proofs.HeadCuts.{head_framing}
 use Rattle.rd_http_frame.proofs.HeadOnce.{begins_once, begins_or_not, begins_stays, begins_itself}

@@ -1,11 +1,11 @@
 -- A head that is whole is one head, however many bytes follow it.
-use Rattle.std.proofs.Common.{◌≡◌, ℕ, ◌+◌, ◌-◌, ◌<◌, ◌≤◌, Bool, true, false, List, [], ◌++◌, length, take, drop, length-take, take-add, Result, Ok, Err, refl, sym, ap, ◌∙◌, subst, arith}
+use Rattle.std.proofs.Common.{◌≡◌, ℕ, ◌+◌, ◌-◌, ◌≤◌, false, List, ◌++◌, take, drop, take-add, refl, sym, ap, ◌∙◌, subst, arith}
 use Rattle.std.proofs.lemmas.Bool.{false≢true}
 use Rattle.std.proofs.lemmas.List.{take-append-drop}
-use Rattle.httparse.specs.Grammar.{RequestHead, ReadsRequest, ResponseHead, ReadsResponse}
+use Rattle.httparse.specs.Grammar.{ReadsRequest, ReadsResponse}
 use Rattle.httparse.proofs.GrammarLemmas.{request_unique, response_unique, ReadsRequest-append, ReadsResponse-append}
 use Rattle.rd_base.specs.declared.values.Scan.{Scan}
-use Rattle.rd_base.specs.declared.values.Scan.TheVariants.{Whole, More, Bad, TooBig, Unsupported}
+use Rattle.rd_base.specs.declared.values.Scan.TheVariants.{Whole}
 use Rattle.rd_base.specs.declared.values.Part.{Part}
 use Rattle.rd_base.specs.declared.values.Part.TheVariants.{Request, Reply}
 use Rattle.rd_http_frame.specs.Heads.{IsHeadScan, seen}

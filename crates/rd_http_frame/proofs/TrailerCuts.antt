@@ -1,7 +1,7 @@
 -- Trailers are cut in one way.
 use Rattle.std.proofs.Common.{◌≡◌, ℕ, ◌+◌, ◌<◌, ◌≤◌, List, [], ◌++◌, length, take, ap, sym, ◌∙◌, refl, subst, arith, append_assoc, append-nil}
-use Rattle.httparse.specs.Grammar.{Field, LineEnd, print_end, print_section, ReadsSection, HasNoSection, NeverHasSection}
-use Rattle.httparse.proofs.GrammarLemmas.{section_unique, ReadsSection-append}
+use Rattle.httparse.specs.Grammar.{Field, LineEnd, print_end, print_section, ReadsSection, NeverHasSection}
+use Rattle.httparse.proofs.GrammarLemmas.{section_unique}
 use Rattle.rd_base.specs.declared.values.Scan.{Scan}
 use Rattle.rd_base.specs.declared.values.Scan.TheVariants.{Whole, Bad}
 use Rattle.rd_http_frame.specs.Fronts.{line_feeds, fresh}
@@ -9,7 +9,7 @@ use Rattle.rd_http_frame.specs.Heads.{seen}
 use Rattle.rd_http_frame.specs.Trailers.{IsSectionScan, IsTrailerScan, trailer_feeds}
 use Rattle.rd_http_frame.specs.Trailers.{IsSectionScan as section}
 use Rattle.rd_http_frame.proofs.HeadLines.{feeds-fields}
-use Rattle.rd_http_frame.proofs.HeadCuts.{seen_more, front_taken, front_small, seen_itself, last_feeds, not_unfinished, not_open}
+use Rattle.rd_http_frame.proofs.HeadCuts.{seen_more, front_small, seen_itself, last_feeds, not_unfinished, not_open}
 
 too_many : {A : Type 0} (bytes : List ℕ) → 100 < trailer_feeds bytes → trailer_feeds bytes ≤ 100 → A
 too_many bytes over fits = absurd (omega (arith, over, fits))

@@ -1,18 +1,16 @@
 -- What is found of a head is what the definitions say.
 use Rattle.std.specs.Prelude.{IfOk}
-use Rattle.std.proofs.Common.{◌≡◌, ℕ, ◌+◌, ◌<◌, ◌≤◌, Bool, true, false, List, [], ◌++◌, length, take, if◌then◌else◌, nat_le, Result, Ok, Err, refl, sym, ap, ◌∙◌, subst, arith, append-nil, append_assoc, length-take}
-use Rattle.httparse.specs.Grammar.{RequestHead, print_request, ReadsRequest, ResponseHead, print_response, ReadsResponse}
-use Rattle.httparse.proofs.GrammarLemmas.{request_unique, response_unique, ReadsRequest-append, ReadsResponse-append}
+use Rattle.std.proofs.Common.{◌≡◌, ℕ, ◌<◌, ◌≤◌, Bool, true, false, List, length, if◌then◌else◌, nat_le, Result, Ok, Err, refl, sym, subst}
+use Rattle.httparse.specs.Grammar.{RequestHead, ReadsRequest, ResponseHead, ReadsResponse}
 use Rattle.rd_base.specs.declared.values.Scan.{Scan}
-use Rattle.rd_base.specs.declared.values.Scan.TheVariants.{Whole, More, Bad, TooBig, Unsupported}
+use Rattle.rd_base.specs.declared.values.Scan.TheVariants.{More, TooBig}
 use Rattle.rd_base.specs.declared.values.Part.{Part}
 use Rattle.rd_base.specs.declared.values.Part.TheVariants.{Request, Reply}
 use Rattle.rd_http_frame.specs.declared.scan.WholeHead.{WholeHead}
 use Rattle.rd_http_frame.specs.Heads.{IsHeadScan, IsRequestScan, IsReplyScan, seen, unfinished}
-use Rattle.rd_http_frame.specs.Places.{HeadPlaces, IsHead, request_places, reply_places}
+use Rattle.rd_http_frame.specs.Places.{HeadPlaces, request_places, reply_places}
 use Rattle.rd_http_frame.specs.WholeHeads.{BeginsWith, is_whole, head_scan, IsWholeHead, TellsRequest, TellsReply, AnswersRequest, AnswersReply}
-use Rattle.rd_http_frame.proofs.Unique.{head_once}
-use Rattle.rd_http_frame.proofs.HeadCuts.{seen_more, head_framing}
+use Rattle.rd_http_frame.proofs.HeadCuts.{head_framing}
 
 pub tells_request : (bytes : List ℕ) (h : RequestHead) (rest : List ℕ) → ReadsRequest bytes h rest → (found : Result WholeHead Scan) → AnswersRequest h found → TellsRequest bytes found
 tells_request bytes h rest reads (Ok found) a = (h, rest, reads, a.0, a.1)

@@ -1,21 +1,21 @@
 -- Requests and replies are what the scans find.
-use Rattle.std.proofs.Common.{◌≡◌, ℕ, ◌+◌, ◌-◌, ◌<◌, ◌≤◌, Bool, true, false, List, [], ◌∷◌, ◌++◌, length, take, drop, length-take, length-drop, length-append, drop-drop, append-nil, Result, Ok, Err, refl, sym, ap, ◌∙◌, subst, arith}
+use Rattle.std.proofs.Common.{◌≡◌, ℕ, ◌+◌, ◌≤◌, Bool, true, false, List, [], ◌∷◌, ◌++◌, length, take, drop, length-drop, length-append, drop-drop, append-nil, Result, Ok, refl, sym, ap, ◌∙◌, subst, arith}
 use Rattle.std.proofs.lemmas.List.{take-append-drop, take_all, length-take-le}
-use Rattle.std.proofs.Math.Seq.{drop-append_seam, drop-append-add}
-use Rattle.httparse.specs.Grammar.{RequestHead, print_request, ReadsRequest, ResponseHead, print_response, ReadsResponse}
+use Rattle.std.proofs.Math.Seq.{drop-append_seam}
+use Rattle.httparse.specs.Grammar.{print_request, print_response}
 use Rattle.httparse.proofs.GrammarLemmas.{request_unique, response_unique}
 use Rattle.rd_base.specs.declared.values.Scan.{Scan}
-use Rattle.rd_base.specs.declared.values.Scan.TheVariants.{Whole, More}
+use Rattle.rd_base.specs.declared.values.Scan.TheVariants.{Whole}
 use Rattle.rd_base.specs.declared.values.Part.{Part}
 use Rattle.rd_base.specs.declared.values.Part.TheVariants.{Request, Reply}
 use Rattle.rd_http_frame.specs.declared.body.BodyRule.{BodyRule}
 use Rattle.rd_http_frame.specs.declared.body.BodyRule.TheVariants.{Empty, Length, Chunked, UntilEnd}
 use Rattle.rd_http_frame.specs.declared.unit.FinalHead.{FinalHead}
-use Rattle.rd_http_frame.specs.Heads.{IsRequestScan, IsReplyScan, request_answer, reply_answer, seen}
-use Rattle.rd_http_frame.specs.Places.{HeadPlaces, IsHead, request_places, reply_places}
+use Rattle.rd_http_frame.specs.Heads.{IsRequestScan, IsReplyScan, seen}
+use Rattle.rd_http_frame.specs.Places.{HeadPlaces, request_places, reply_places}
 use Rattle.rd_http_frame.specs.WholeHeads.{BeginsWith}
 use Rattle.rd_http_frame.specs.Chunks.{trailer_from}
-use Rattle.rd_http_frame.specs.Units.{IsFinalHead, is_interim, rule_in, IsBodyScan, IsUnitScan, IsWholeRequestScan, IsWholeReplyScan}
+use Rattle.rd_http_frame.specs.Units.{IsFinalHead, rule_in, IsBodyScan, IsUnitScan, IsWholeRequestScan, IsWholeReplyScan}
 use Rattle.rd_http_frame.specs.Units.{IsFinalHead as found_of}
 use Rattle.rd_http_frame.specs.WholeUnits.{IsBody, IsHeadOf, IsUnit, IsRequest, IsReply}
 use Rattle.rd_http_frame.specs.WholeUnits.{IsUnit as unit}
@@ -188,12 +188,12 @@ unit_found part head_request ended bytes x =
 
 pub finds_requests : FindsUnits (λ _. IsRequest) (λ _. IsWholeRequestScan)
 finds_requests = record {
-      whole = λ ended bytes len x. unit_whole Request false false bytes len x;
-      found = λ ended bytes x. unit_found Request false false bytes x;
-    }
+  whole = λ ended bytes len x. unit_whole Request false false bytes len x;
+  found = λ ended bytes x. unit_found Request false false bytes x;
+}
 
 pub finds_replies : (head_request : Bool) → FindsUnits (IsReply head_request) (IsWholeReplyScan head_request)
 finds_replies head_request = record {
-      whole = λ ended bytes len x. unit_whole Reply head_request ended bytes len x;
-      found = λ ended bytes x. unit_found Reply head_request ended bytes x;
-    }
+  whole = λ ended bytes len x. unit_whole Reply head_request ended bytes len x;
+  found = λ ended bytes x. unit_found Reply head_request ended bytes x;
+}

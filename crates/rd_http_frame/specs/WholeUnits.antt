@@ -37,7 +37,7 @@ pub record IsTrailer (trailer : List ℕ) : Type 0 where
 pub data IsChunked : List ℕ → Type 0 where
   Last : (line trailer bytes : List ℕ) → IsSizeLine 0 line → IsTrailer trailer → bytes ≡ line ++ trailer → IsChunked bytes
   Chunk : (line content rest bytes : List ℕ) → IsSizeLine (length content) line → 0 < length content → IsChunked rest
-    → bytes ≡ line ++ (content ++ 13 ∷ 10 ∷ rest) → IsChunked bytes
+      → bytes ≡ line ++ (content ++ 13 ∷ 10 ∷ rest) → IsChunked bytes
 
 -- a body, by what its head says of it
 abbrev pub IsBody : BodyRule → Bool → List ℕ → Type 0
@@ -73,9 +73,9 @@ IsHeadOf Reply bytes head = IsReplyHeadOf bytes head
 -- interim heads, which a request doesn't have, and then a head and its body; `ended` says that no more bytes come
 pub data IsUnit (part : Part) (head_request ended : Bool) : List ℕ → Type 0 where
   Interim : (front rest bytes : List ℕ) (head : HeadPlaces) → IsHeadOf part front head → is_interim head.status ≡ true → IsUnit part head_request ended rest
-    → bytes ≡ front ++ rest → IsUnit part head_request ended bytes
+      → bytes ≡ front ++ rest → IsUnit part head_request ended bytes
   Final : (front body bytes : List ℕ) (head : HeadPlaces) → IsHeadOf part front head → is_interim head.status ≡ false → IsBody (rule_in head_request head.body) ended body
-    → bytes ≡ front ++ body → IsUnit part head_request ended bytes
+      → bytes ≡ front ++ body → IsUnit part head_request ended bytes
 
 abbrev pub IsRequest : List ℕ → Type 0
 IsRequest bytes = IsUnit Request false false bytes

@@ -1,4 +1,4 @@
-use Rattle.std.proofs.Common.{◌∙◌, ap, sym, drop, length, length-drop, arith}
+use Rattle.std.proofs.Common.{◌∙◌, ap, sym, length, length-drop, arith}
 use Rattle.std.proofs.lemmas.List.{take_rest}
 use Rattle.rd_http_frame.specs.Chunks.{front_chunk}
 use Rattle.rd_http_frame.proofs.ChunkSteps.{step_inner}

@@ -1,6 +1,5 @@
 use Rattle.std.proofs.Common.{◌≡◌, ◌+◌, ◌++◌, ℕ, List, take, drop, ap, sym, ◌∙◌, append_assoc}
 use Rattle.rd_base.specs.Outside.{IsPrefixOf}
-use Rattle.rd_http_frame.specs.Chunks.{size_line, data_line}
 use Rattle.rd_http_frame.proofs.ChunkData.{data_pushed}
 use Rattle.rd_http_frame.proofs.flat.push_chunks.Goals as goal
 

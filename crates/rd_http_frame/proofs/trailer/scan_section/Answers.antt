@@ -1,6 +1,5 @@
-use Rattle.std.proofs.Common.{◌≡◌, ◌≤◌, ℕ, List, refl, ap, zero-add, Err, ◌∙◌, arith, length, drop}
+use Rattle.std.proofs.Common.{refl, ap, zero-add, Err, ◌∙◌, arith}
 use Rattle.rd_base.specs.declared.values.Scan.TheVariants.{Whole}
-use Rattle.rd_http_frame.specs.Fronts.{line_feeds, fresh}
 use Rattle.rd_http_frame.specs.Trailers.IsSectionScan.{ManyLines, Complete}
 use Rattle.rd_http_frame.proofs.Sections.{section_exceeds_feeds, section_fields_fit}
 use Rattle.rd_http_frame.proofs.trailer.scan_section.Goals as goal

@@ -3,9 +3,9 @@ use Rattle.rd_base.specs.declared.values.Scan.{Scan}
 use Rattle.rd_base.specs.declared.values.Part.{Part}
 use Rattle.rd_http_frame.specs.declared.unit.FinalHead.{FinalHead}
 use Rattle.rd_http_frame.specs.Units.{IsFinalHead}
-use Rattle.std.proofs.Common.{ℕ, List, Result, Ok, Err, ◌≡◌, subst, ◌∙◌, ap, sym, drop, length, length-drop, arith}
+use Rattle.std.proofs.Common.{ℕ, List, Result, Ok, Err, ◌≡◌, subst, ◌∙◌, ap, sym, length, length-drop, arith}
 use Rattle.std.proofs.lemmas.List.{take_rest}
-use Rattle.rd_http_frame.proofs.FinalHeads.{walk_begins, walk_missing, walk_final, walk_interim}
+use Rattle.rd_http_frame.proofs.FinalHeads.{walk_missing, walk_final, walk_interim}
 use Rattle.rd_http_frame.proofs.unit.final_head.Goals as goal
 
 err_found : (part : Part) (bytes : List ℕ) (found : Result FinalHead Scan) (scan : Scan) → IsErrAnd found (λ s. s ≡ scan) → IsFinalHead part bytes (Err scan) → IsFinalHead part bytes found

@@ -1,4 +1,4 @@
-use Rattle.std.proofs.Common.{◌≡◌, ◌≤◌, length, drop, ◌-◌, Result}
+use Rattle.std.proofs.Common.{◌≤◌, length, drop, ◌-◌, Result}
 use Rattle.rd_base.specs.declared.values.Scan.{Scan}
 use Rattle.rd_http_frame.specs.declared.unit.FinalHead.{FinalHead}
 use Rattle.rd_http_frame.specs.Units.{IsFinalHead, head_behind}

@@ -1,4 +1,4 @@
-use Rattle.std.proofs.Common.{sym, ◌∙◌, ap, Err}
+use Rattle.std.proofs.Common.{sym, ◌∙◌}
 use Rattle.rd_http_frame.proofs.ChunkSteps.{trailer_never}
 use Rattle.rd_http_frame.proofs.unit.scan_chunked.Goals as goal
 

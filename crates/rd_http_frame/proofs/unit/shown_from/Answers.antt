@@ -1,4 +1,4 @@
-use Rattle.std.proofs.Common.{◌≡◌, ◌<◌, ◌≤◌, List, ℕ, Ok, refl, sym, arith}
+use Rattle.std.proofs.Common.{Ok, refl, arith}
 use Rattle.rd_base.specs.declared.values.Part.TheVariants.{Reply}
 use Rattle.rd_http_frame.proofs.UnitCuts.{shown_once, found_whole}
 use Rattle.rd_http_frame.proofs.FinalOnce.{final_fits}
