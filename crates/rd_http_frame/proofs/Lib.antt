@@ -22,3 +22,4 @@ pub mod ChunkData
 pub mod FlatForms
 pub mod ChunkForms
 pub mod WholeUnits
+pub mod EmptyLines

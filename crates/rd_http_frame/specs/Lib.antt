@@ -11,3 +11,4 @@ pub mod UnitLaws
 pub mod Flats
 pub mod FlatLaws
 pub mod WholeUnits
+pub mod EmptyLines

@@ -3,6 +3,7 @@ ghost use Rattle.rd_base.specs.declared.values.Scan.{Scan};
 ghost use Rattle.httparse.specs.Grammar.{RequestHead, ResponseHead};
 ghost use Rattle.httparse.specs.Spans.{IsRequestAt, IsRequestWithin, IsResponseAt, IsResponseWithin};
 ghost use Rattle.rd_http_frame.specs.WholeHeads.{head_scan, IsWholeHead, TellsRequest, TellsReply, AnswersRequest, AnswersReply};
+ghost use Rattle.rd_http_frame.specs.EmptyLines.{EmptyLineSettles};
 ghost use Rattle.rd_http_frame.specs.HeadLaws.{IsHeadFraming};
 ghost use Rattle.rd_http_frame.specs.Heads.{IsHeadScan, IsRequestScan, IsReplyScan, request_answer, reply_answer, unfinished, seen};
 
@@ -43,6 +44,9 @@ pub fn scan_head(part: Part, bytes: &[u8]) -> Scan
 
     // No head begins another, and hopeless bytes begin none, whatever follows.
     ensures framing { IsHeadFraming part }
+
+    // Bytes that hold an empty line behind the front and begin with no head are hopeless.
+    ensures empty_line { EmptyLineSettles part }
 {
     match whole_head(part, bytes) {
         Ok(head) => Scan::Whole(head.len),

@@ -1,4 +1,5 @@
 ghost use Rattle.rd_base.specs.declared.values.Scan.TheVariants.{Whole};
+ghost use Rattle.rd_http_frame.specs.EmptyLines.{EmptyLineSettlesTrailer};
 ghost use Rattle.rd_http_frame.specs.Heads.{seen};
 ghost use Rattle.std.specs.Prelude.{◌≡◌, ◌≤◌, ℕ, length};
 ghost use Rattle.rd_http_frame.specs.Trailers.{IsSectionScan, IsTrailerScan};
@@ -12,6 +13,9 @@ use rd_base::Scan;
 /// What the bytes behind the last size line come to. Of the first 65,536 no more are looked at.
 pub(crate) fn scan_trailer(bytes: &[u8]) -> Scan
     ensures scan { IsTrailerScan bytes.now result }
+
+    // Bytes that hold an empty line and begin with no trailer are hopeless.
+    ensures empty_line { EmptyLineSettlesTrailer }
     ensures within { (len : ℕ) → result ≡ Whole len → len ≤ length bytes.now }
 {
     scan_section(seen(bytes))

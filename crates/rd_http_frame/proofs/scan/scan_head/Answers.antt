@@ -1,4 +1,5 @@
 use Rattle.rd_http_frame.proofs.Unique.{head_once}
+use Rattle.rd_http_frame.proofs.EmptyLines.{empty_line_settles}
 use Rattle.rd_http_frame.proofs.HeadCuts.{head_framing}
 use Rattle.rd_http_frame.proofs.scan.scan_head.Goals as goal
 
@@ -13,3 +14,9 @@ returns-in-Err-clause-only c = λ other is. head_once c.args.part c.args.bytes.n
 
 pub returns-in-Err-clause-framing : goal.returns-in-Err-clause-framing
 returns-in-Err-clause-framing c = head_framing c.args.part
+
+pub returns-in-Ok-clause-empty_line : goal.returns-in-Ok-clause-empty_line
+returns-in-Ok-clause-empty_line c = empty_line_settles c.args.part
+
+pub returns-in-Err-clause-empty_line : goal.returns-in-Err-clause-empty_line
+returns-in-Err-clause-empty_line c = empty_line_settles c.args.part
