@@ -25,7 +25,7 @@ pub fn flat_into(
     ensures ok { OnOk result ((flat : List ℕ) × IsFlat part head_request bytes.now whole flat × (out.new ≡ out.old ++ flat)) }
     ensures err { OnErr result (out.new ≡ out.old) }
 
-    // One flat form of each bytes; a part's begins the whole's; it has at most thrice the bytes and four.
+    // Bytes have one flat form; a part's begins the whole's; it has at most three times the bytes and four more.
     ensures laws { AreFlatForms part head_request }
 {
     let Ok(head) = final_head(part, bytes) else {
