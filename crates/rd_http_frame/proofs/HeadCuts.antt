@@ -22,7 +22,7 @@ use Rattle.rd_http_frame.proofs.HeadLines.{printed, feeds-body, body}
 use Rattle.rd_http_frame.proofs.TargetCuts.{target_good}
 use Rattle.rd_http_frame.proofs.Replies.{reply_printed, feeds-reply_body, reply_body}
 
-take_cut : (n : ℕ) (xs ys : List ℕ) → (r : List ℕ) × (take n (xs ++ ys) ≡ take n xs ++ r)
+pub take_cut : (n : ℕ) (xs ys : List ℕ) → (r : List ℕ) × (take n (xs ++ ys) ≡ take n xs ++ r)
 take_cut zero xs ys = ([], refl)
 take_cut (suc n) [] ys = (take (suc n) ys, refl)
 take_cut (suc n) (x ∷ xs) ys = let z = take_cut n xs ys in (z.0, ap (λ (t : List ℕ). x ∷ t) z.1)
@@ -32,20 +32,20 @@ pub seen_more : (bytes more : List ℕ) → (r : List ℕ) × (seen (bytes ++ mo
 seen_more bytes more = take_cut 65536 bytes more
 
 -- the bytes of a head at the front of what is seen
-front_taken : (bytes p rest : List ℕ) → seen bytes ≡ p ++ rest → take (length p) bytes ≡ p
+pub front_taken : (bytes p rest : List ℕ) → seen bytes ≡ p ++ rest → take (length p) bytes ≡ p
 front_taken bytes p rest e =
     let all : bytes ≡ p ++ (rest ++ drop 65536 bytes) = sym (take-append-drop 65536 bytes) ∙ ap (λ (t : List ℕ). t ++ drop 65536 bytes) e ∙ append_assoc p rest (drop 65536 bytes) in
     ap (λ (t : List ℕ). take (length p) t) all ∙ take-append_seam p (rest ++ drop 65536 bytes)
 
-front_small : (bytes p rest : List ℕ) → seen bytes ≡ p ++ rest → (length p ≤ 65536) × (length p ≤ length bytes)
+pub front_small : (bytes p rest : List ℕ) → seen bytes ≡ p ++ rest → (length p ≤ 65536) × (length p ≤ length bytes)
 front_small bytes p rest e =
     let size : length (seen bytes) ≡ length p + length rest = ap (λ (t : List ℕ). length t) e ∙ length-append p rest in
     (omega (arith, size, length-take 65536 bytes), omega (arith, size, length-take 65536 bytes))
 
-seen_itself : (bytes p rest : List ℕ) → seen bytes ≡ p ++ rest → seen (take (length p) bytes) ≡ p
+pub seen_itself : (bytes p rest : List ℕ) → seen bytes ≡ p ++ rest → seen (take (length p) bytes) ≡ p
 seen_itself bytes p rest e = ap (λ (t : List ℕ). seen t) (front_taken bytes p rest e) ∙ take_all 65536 p (front_small bytes p rest e).0
 
-last_feeds : (e : LineEnd) (rest : List ℕ) → line_feeds fresh (print_end e ++ rest) ≡ 0
+pub last_feeds : (e : LineEnd) (rest : List ℕ) → line_feeds fresh (print_end e ++ rest) ≡ 0
 last_feeds crlf rest = refl
 last_feeds lf rest = refl
 
@@ -53,7 +53,7 @@ some_end : (e : LineEnd) → 0 < length (print_end e)
 some_end crlf = omega arith
 some_end lf = omega arith
 
-not_unfinished : (bytes : List ℕ) (len : ℕ) → Whole len ≡ unfinished bytes → ⊥
+pub not_unfinished : (bytes : List ℕ) (len : ℕ) → Whole len ≡ unfinished bytes → ⊥
 not_unfinished bytes len e = by (nat_le 65536 (length bytes)) e
   where
     by : (t : Bool) → Whole len ≡ (if t then TooBig else More) → ⊥
@@ -183,7 +183,7 @@ request_good h len e = by (list_all is_target_byte h.target) (is_some (framing_o
     by true clear s f = refl
     by false clear s f = absurd (cc f)
 
-not_open : (bytes : List ℕ) → Bad ≡ unfinished bytes → ⊥
+pub not_open : (bytes : List ℕ) → Bad ≡ unfinished bytes → ⊥
 not_open bytes e = by (nat_le 65536 (length bytes)) e
   where
     by : (t : Bool) → Bad ≡ (if t then TooBig else More) → ⊥

@@ -41,7 +41,7 @@ reply_body h = print_blank h.blank ++ (print_version h.minor ++ 32 ∷ from_digi
 regroup : (a b c d e f r : List ℕ) → (a ++ (b ++ 32 ∷ (c ++ (d ++ (e ++ (f ++ [])))))) ++ r ≡ a ++ (b ++ 32 ∷ (c ++ (d ++ (e ++ (f ++ r)))))
 regroup a b c d e f r = simp (append_assoc, append-nil)
 
-reply_body-append : (h : ResponseHead) (R : List ℕ) → reply_body h ++ R ≡ print_blank h.blank ++ (print_version h.minor ++ 32 ∷ from_digits h R)
+pub reply_body-append : (h : ResponseHead) (R : List ℕ) → reply_body h ++ R ≡ print_blank h.blank ++ (print_version h.minor ++ 32 ∷ from_digits h R)
 reply_body-append h R = regroup (print_blank h.blank) (print_version h.minor) h.digits (print_reason h.reason) (print_end h.line_end) (flat_map print_field h.fields) R
 
 pub reply_printed : (h : ResponseHead) (rest : List ℕ) → print_response h ++ rest ≡ reply_body h ++ (print_end h.last ++ rest)

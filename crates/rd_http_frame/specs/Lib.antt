@@ -3,3 +3,12 @@ pub mod Fields
 pub mod Heads
 pub mod Places
 pub mod HeadLaws
+pub mod Chunks
+pub mod Trailers
+pub mod WholeHeads
+pub mod Units
+pub mod UnitLaws
+pub mod Flats
+pub mod FlatLaws
+pub mod WholeUnits
+pub mod EmptyLines

@@ -1,4 +1,5 @@
-ghost use Rattle.std.specs.Prelude.{◌≡◌};
+ghost use Rattle.std.specs.Prelude.{◌≡◌, if◌then◌else◌};
+ghost use Rattle.rd_http_frame.specs.declared.body.BodyRule.TheVariants.{Empty, UntilEnd};
 ghost use Rattle.rd_http_frame.specs.Places.{rule_of, has_no_body};
 
 use crate::fields::Framing;
@@ -37,8 +38,19 @@ pub(crate) fn rule_of(unstated: BodyRule, framing: Option<Framing>) -> BodyRule
 }
 
 /// Whether a reply of this status has no body.
-pub(crate) fn has_no_body(status: u16) -> bool
+fn has_no_body(status: u16) -> bool
     ensures { result ≡ has_no_body status }
 {
     (status >= 100 && status < 200) || status == 204 || status == 304
+}
+
+/// Where a reply's body ends, but for a reply to HEAD.
+pub(crate) fn reply_rule(status: u16, framing: Option<Framing>) -> BodyRule
+    ensures { result ≡ if has_no_body status then Empty else rule_of UntilEnd framing }
+{
+    if has_no_body(status) {
+        BodyRule::Empty
+    } else {
+        rule_of(BodyRule::UntilEnd, framing)
+    }
 }

@@ -1,13 +1,12 @@
-ghost use Rattle.std.specs.Prelude.{◌≡◌, ◌≤◌, ◌<◌, ℕ, length, slice_index_or, IfSome, None, if◌then◌else◌};
+ghost use Rattle.std.specs.Prelude.{◌≡◌, ◌≤◌, ◌<◌, ℕ, length, slice_index_or, IfSome, None};
 ghost use Rattle.rd_base.specs.declared.values.Scan.TheVariants.{Whole};
 ghost use Rattle.httparse.specs.Grammar.{RequestHead, ResponseHead};
 ghost use Rattle.httparse.specs.Spans.{IsRequestAt, IsRequestOf, IsRequestWithin, IsResponseAt, IsResponseOf, IsResponseWithin};
 ghost use Rattle.rd_http_frame.specs.Heads.{IsHeadScan};
-ghost use Rattle.rd_http_frame.specs.Places.{HeadPlaces, IsHead, request_places, reply_places, IsRequestRead, IsReplyRead, has_no_body, rule_of};
-ghost use Rattle.rd_http_frame.specs.declared.body.BodyRule.TheVariants.{Empty, UntilEnd};
+ghost use Rattle.rd_http_frame.specs.Places.{HeadPlaces, IsHead, request_places, reply_places, IsRequestRead, IsReplyRead};
 
-use crate::body::{BodyRule, has_no_body, rule_of};
-use crate::fields::{Framing, framing_of};
+use crate::body::{BodyRule, reply_rule, rule_of};
+use crate::fields::framing_of;
 use crate::lines::front_len;
 use crate::place::{FieldSpan, Span, field_spans, first_at};
 use crate::scan::{MOST_FIELDS, scan_head, seen};
@@ -161,16 +160,5 @@ fn reply_places(bytes: &[u8], spans: &ResponseSpans, headers: &[HeaderSpan]) -> 
         status: spans.code,
         fields: field_spans(bytes, first, fields),
         body: reply_rule(spans.code, framing_of(spans.version, bytes, fields)),
-    }
-}
-
-/// Where a reply's body ends, but for a reply to HEAD.
-fn reply_rule(status: u16, framing: Option<Framing>) -> BodyRule
-    ensures { result ≡ if has_no_body status then Empty else rule_of UntilEnd framing }
-{
-    if has_no_body(status) {
-        BodyRule::Empty
-    } else {
-        rule_of(BodyRule::UntilEnd, framing)
     }
 }

@@ -2,17 +2,25 @@
 #![tactic(auto)]
 
 mod body;
+mod chunk;
 mod fields;
+mod flat;
 mod head;
 mod lines;
 mod place;
 mod scan;
 mod target;
+mod trailer;
+mod unit;
 
 pub use body::{BodyRule, body_rule};
+pub use flat::flat_into;
 pub use head::Head;
 pub use place::{FieldSpan, Span};
 pub use scan::scan_head;
+pub use unit::{scan_reply, scan_request, shown_from};
 
 #[cfg(test)]
 mod tests;
+#[cfg(test)]
+mod unit_tests;

@@ -1,4 +1,4 @@
-ghost use Rattle.std.specs.Prelude.{◌≡◌, ◌≤◌, ◌+◌, drop, length, false};
+ghost use Rattle.std.specs.Prelude.{◌≡◌, ◌≤◌, ◌+◌, take, drop, length, false};
 ghost use Rattle.rd_http_frame.specs.Fronts.{place_of, front_len, line_feeds, after_front};
 
 /// The bytes past the line ends at the front.
@@ -46,4 +46,26 @@ pub(crate) fn line_feeds(text: &[u8], begins: bool) -> usize
         }
     }
     count
+}
+
+/// The first bytes, or all.
+pub(crate) fn front(bytes: &[u8], count: usize) -> &[u8]
+    ensures { result.now ≡ take count bytes.now }
+{
+    if count < bytes.len() {
+        &bytes[..count]
+    } else {
+        bytes
+    }
+}
+
+/// What is behind the first bytes.
+pub(crate) fn behind_front(bytes: &[u8], count: usize) -> &[u8]
+    ensures { result.now ≡ drop count bytes.now }
+{
+    if count < bytes.len() {
+        &bytes[count..]
+    } else {
+        &[]
+    }
 }

@@ -1,10 +1,13 @@
-ghost use Rattle.std.specs.Prelude.{◌≡◌, ◌≤◌, length};
+ghost use Rattle.std.specs.Prelude.{◌≡◌, ◌≤◌, ◌<◌, length, IfOk};
 ghost use Rattle.rd_base.specs.declared.values.Scan.{Scan};
 ghost use Rattle.httparse.specs.Grammar.{RequestHead, ResponseHead};
 ghost use Rattle.httparse.specs.Spans.{IsRequestAt, IsRequestWithin, IsResponseAt, IsResponseWithin};
+ghost use Rattle.rd_http_frame.specs.WholeHeads.{head_scan, IsWholeHead, TellsRequest, TellsReply, AnswersRequest, AnswersReply};
+ghost use Rattle.rd_http_frame.specs.EmptyLines.{EmptyLineSettles};
 ghost use Rattle.rd_http_frame.specs.HeadLaws.{IsHeadFraming};
 ghost use Rattle.rd_http_frame.specs.Heads.{IsHeadScan, IsRequestScan, IsReplyScan, request_answer, reply_answer, unfinished, seen};
 
+use crate::body::{BodyRule, reply_rule, rule_of};
 use crate::fields::framing_of;
 use crate::lines::{after_front, line_feeds};
 use crate::target::{is_good_target, is_in_target, is_visible};
@@ -21,6 +24,14 @@ const MOST_LINES: usize = 101;
 /// The most fields of a head.
 pub(crate) const MOST_FIELDS: usize = 100;
 
+/// A whole head: its bytes, a reply's status, and where its body ends.
+#[derive(Clone, Copy, Debug, PartialEq, Eq)]
+pub(crate) struct WholeHead {
+    pub len: usize,
+    pub status: u16,
+    pub body: BodyRule,
+}
+
 /// What the bytes come to as the head of a request or of a reply. Of the first 65,536 no more are looked at.
 ///
 /// `Bad` where no head can come of them, or where a whole one leaves a doubt about its body; `TooBig`
@@ -33,10 +44,25 @@ pub fn scan_head(part: Part, bytes: &[u8]) -> Scan
 
     // No head begins another, and hopeless bytes begin none, whatever follows.
     ensures framing { IsHeadFraming part }
+
+    // Bytes that hold an empty line behind the front and begin with no head are hopeless.
+    ensures empty_line { EmptyLineSettles part }
+{
+    match whole_head(part, bytes) {
+        Ok(head) => Scan::Whole(head.len),
+        Err(scan) => scan,
+    }
+}
+
+/// The head at the front, or what the bytes come to without a whole one.
+pub(crate) fn whole_head(part: Part, bytes: &[u8]) -> Result<WholeHead, Scan>
+    ensures head { IsWholeHead part bytes.now result }
+    ensures some_bytes { IfOk result (λ head. 0 < head.len) }
+    ensures within { IfOk result (λ head. head.len ≤ length bytes.now) }
 {
     match part {
-        Part::Request => scan_request_head(seen(bytes)),
-        Part::Reply => scan_reply_head(seen(bytes)),
+        Part::Request => whole_request_head(seen(bytes)),
+        Part::Reply => whole_reply_head(seen(bytes)),
     }
 }
 
@@ -52,49 +78,51 @@ pub(crate) fn seen(bytes: &[u8]) -> &[u8]
     }
 }
 
-fn scan_request_head(bytes: &[u8]) -> Scan
+fn whole_request_head(bytes: &[u8]) -> Result<WholeHead, Scan>
     requires { length bytes.now ≤ 65536 }
-    ensures { IsRequestScan bytes.now result }
+    ensures scan { IsRequestScan bytes.now (head_scan result) }
+    ensures tells { TellsRequest bytes.now result }
 {
     let text = after_front(bytes);
     if line_feeds(text, false) > MOST_LINES {
-        return Scan::TooBig;
+        return Err(Scan::TooBig);
     }
     if is_in_target(text) {
         return if is_good_target(text) {
-            unfinished(bytes)
+            Err(unfinished(bytes))
         } else {
-            Scan::Bad
+            Err(Scan::Bad)
         };
     }
     let mut headers = [EMPTY_HEADER_SPAN; MOST_FIELDS];
     match parse_request(bytes, &mut headers) {
         Ok(Status::Complete(spans)) => request_answer(bytes, &spans, &headers),
-        Ok(Status::Partial) => unfinished(bytes),
-        Err(Error::TooManyHeaders) => Scan::TooBig,
-        Err(_) => Scan::Bad,
+        Ok(Status::Partial) => Err(unfinished(bytes)),
+        Err(Error::TooManyHeaders) => Err(Scan::TooBig),
+        Err(_) => Err(Scan::Bad),
     }
 }
 
-fn scan_reply_head(bytes: &[u8]) -> Scan
+fn whole_reply_head(bytes: &[u8]) -> Result<WholeHead, Scan>
     requires { length bytes.now ≤ 65536 }
-    ensures { IsReplyScan bytes.now result }
+    ensures scan { IsReplyScan bytes.now (head_scan result) }
+    ensures tells { TellsReply bytes.now result }
 {
     let text = after_front(bytes);
     if line_feeds(text, false) > MOST_LINES {
-        return Scan::TooBig;
+        return Err(Scan::TooBig);
     }
     let mut headers = [EMPTY_HEADER_SPAN; MOST_FIELDS];
     match parse_response(bytes, &mut headers) {
         Ok(Status::Complete(spans)) => reply_answer(bytes, &spans, &headers),
-        Ok(Status::Partial) => unfinished(bytes),
-        Err(Error::TooManyHeaders) => Scan::TooBig,
-        Err(_) => Scan::Bad,
+        Ok(Status::Partial) => Err(unfinished(bytes)),
+        Err(Error::TooManyHeaders) => Err(Scan::TooBig),
+        Err(_) => Err(Scan::Bad),
     }
 }
 
 /// Bytes that aren't a head yet.
-fn unfinished(bytes: &[u8]) -> Scan
+pub(crate) fn unfinished(bytes: &[u8]) -> Scan
     ensures { result ≡ unfinished bytes.now }
 {
     if bytes.len() < MOST_BYTES {
@@ -105,32 +133,50 @@ fn unfinished(bytes: &[u8]) -> Scan
 }
 
 /// What a whole request head comes to.
-fn request_answer(bytes: &[u8], spans: &RequestSpans, headers: &[HeaderSpan]) -> Scan
+fn request_answer(
+    bytes: &[u8],
+    spans: &RequestSpans,
+    headers: &[HeaderSpan],
+) -> Result<WholeHead, Scan>
     requires within { IsRequestWithin bytes.now headers.now spans.now }
-    ensures { (h : RequestHead) → IsRequestAt bytes.now headers.now spans.now h → result ≡ request_answer h }
+    ensures scan { (h : RequestHead) → IsRequestAt bytes.now headers.now spans.now h → head_scan result ≡ request_answer h }
+    ensures tells { (h : RequestHead) → IsRequestAt bytes.now headers.now spans.now h → AnswersRequest h result }
 {
-    let fields = &headers[..spans.headers];
-    if !is_visible(spans.path.of(bytes)) || framing_of(spans.version, bytes, fields).is_none() {
-        return Scan::Bad;
+    let framing = framing_of(spans.version, bytes, &headers[..spans.headers]);
+    if !is_visible(spans.path.of(bytes)) || framing.is_none() {
+        return Err(Scan::Bad);
     }
     match spans.method.of(bytes) {
-        b"CONNECT" => Scan::Unsupported(1),
-        b"TRACE" => Scan::Unsupported(2),
-        _ => Scan::Whole(spans.len),
+        b"CONNECT" => Err(Scan::Unsupported(1)),
+        b"TRACE" => Err(Scan::Unsupported(2)),
+        _ => Ok(WholeHead {
+            len: spans.len,
+            status: 0,
+            body: rule_of(BodyRule::Empty, framing),
+        }),
     }
 }
 
 /// What a whole reply head comes to.
-fn reply_answer(bytes: &[u8], spans: &ResponseSpans, headers: &[HeaderSpan]) -> Scan
+fn reply_answer(
+    bytes: &[u8],
+    spans: &ResponseSpans,
+    headers: &[HeaderSpan],
+) -> Result<WholeHead, Scan>
     requires within { IsResponseWithin bytes.now headers.now spans.now }
-    ensures { (h : ResponseHead) → IsResponseAt bytes.now headers.now spans.now h → result ≡ reply_answer h }
+    ensures scan { (h : ResponseHead) → IsResponseAt bytes.now headers.now spans.now h → head_scan result ≡ reply_answer h }
+    ensures tells { (h : ResponseHead) → IsResponseAt bytes.now headers.now spans.now h → AnswersReply h result }
 {
-    let fields = &headers[..spans.headers];
-    if framing_of(spans.version, bytes, fields).is_none() {
-        Scan::Bad
+    let framing = framing_of(spans.version, bytes, &headers[..spans.headers]);
+    if framing.is_none() {
+        Err(Scan::Bad)
     } else if spans.code == 101 {
-        Scan::Unsupported(101)
+        Err(Scan::Unsupported(101))
     } else {
-        Scan::Whole(spans.len)
+        Ok(WholeHead {
+            len: spans.len,
+            status: spans.code,
+            body: reply_rule(spans.code, framing),
+        })
     }
 }
