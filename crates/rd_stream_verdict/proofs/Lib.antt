@@ -1,1 +1,3 @@
 pub mod Queued
+pub mod Behind
+pub mod Reached

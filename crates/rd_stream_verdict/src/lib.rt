@@ -1,5 +1,11 @@
 // The verdict of several token lists that come token by token.
 #![tactic(auto)]
 
+mod copy;
+mod heads;
+mod judging;
 mod queue;
+mod stream;
 mod token;
+
+pub use stream::StreamVerdict;

@@ -1,5 +1,6 @@
 ghost use Rattle.std.specs.Prelude.{◌≡◌, ◌++◌, [], ◌∷◌, drop, slice_get, OnOk, OnErr};
 ghost use Rattle.rd_base.specs.Token.{token};
+ghost use Rattle.rd_base.specs.Words.{is_empty};
 ghost use Rattle.rd_stream_verdict.specs.Queue.{bytes_in};
 
 use crate::token::TokenRef;
@@ -45,6 +46,12 @@ impl TokenQueue {
             start: 0,
             cuts: VecDeque::new(alloc),
         }
+    }
+
+    pub(crate) fn is_empty(&self) -> bool
+        ensures { result ≡ is_empty self.now }
+    {
+        self.cuts.front().is_none()
     }
 
     /// Appends a token.
