@@ -1,3 +1,9 @@
 pub mod Queued
 pub mod Behind
 pub mod Reached
+pub mod ByHeads
+pub mod Same
+pub mod Further
+pub mod KeptCopies
+pub mod Heard
+pub mod Steps

@@ -81,7 +81,7 @@ some_waits (suc q) (x ∷ xs) le = some_waits q xs (omega arith)
 
 -- ---- copies that are behind a place
 
-and_parts : (a b : Bool) → a && b ≡ true → (a ≡ true) × (b ≡ true)
+pub and_parts : (a b : Bool) → a && b ≡ true → (a ≡ true) × (b ≡ true)
 and_parts true true e = (refl, refl)
 and_parts true false e = absurd (cc e)
 and_parts false b e = absurd (cc e)
