@@ -7,3 +7,5 @@ pub mod Further
 pub mod KeptCopies
 pub mod Heard
 pub mod Steps
+pub mod Ended
+pub mod EndSteps
