@@ -62,7 +62,7 @@ nones_alone p heads none = go (position (λ head. one_alone head (head_at heads 
         let found = position-Some (λ head. one_alone head (head_at heads 0)) heads i None is in
         absurd (never (get_or heads i None) (head_at heads 0) (nones_at heads i None none found.0) (nones_first heads none) found.1)
 
-position_none : {X : Type 0} (p : X → Bool) (xs : List X) → position p xs ≡ None → All (λ x. p x ≡ false) xs
+pub position_none : {X : Type 0} (p : X → Bool) (xs : List X) → position p xs ≡ None → All (λ x. p x ≡ false) xs
 position_none p xs e = λ k d lt. not-true (p (get_or xs k d)) (prefix_len_passes (λ x. not (p x)) xs k d (omega (arith, ltb-false (position_or_len p xs) (length xs) (short (nat_lt (position_or_len p xs) (length xs)) e))))
   where
     short : (t : Bool) → cond t (Some (position_or_len p xs)) None ≡ None → t ≡ false

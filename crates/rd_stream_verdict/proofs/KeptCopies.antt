@@ -1,5 +1,5 @@
 -- What is kept of the copies, with a token more or an end.
-use Rattle.std.proofs.Common.{◌≡◌, ℕ, zero, suc, ◌+◌, ◌<◌, ◌≤◌, Bool, true, false, not, ◌&&◌, List, [], ◌∷◌, ◌++◌, length, map, get_or, set, drop, Option, Some, None, refl, ap, sym, ◌∙◌, arith}
+use Rattle.std.proofs.Common.{◌≡◌, ℕ, zero, suc, ◌+◌, ◌<◌, ◌≤◌, Bool, true, false, not, ◌&&◌, List, [], ◌∷◌, ◌++◌, length, map, get_or, set, drop, Option, Some, None, refl, ap, sym, subst, ◌∙◌, arith}
 use Rattle.std.specs.Prelude.{slice_get, slice_set, IfSome}
 use Rattle.std.proofs.lemmas.List.{length_push, drop_all, drop-drop, drop-append-le}
 use Rattle.std.proofs.lemmas.Option.{slice_get_past}
@@ -151,3 +151,14 @@ pub length-place : {A : Type 0} (change : A → A) (k : ℕ) (xs : List A) → l
 length-place change k [] = refl
 length-place change zero (x ∷ xs) = refl
 length-place change (suc k) (x ∷ xs) = ap (λ n. suc n) (length-place change k xs)
+
+-- what is known of an element that is there
+pub some_at : (P : CopyKept → Type 0) (k : ℕ) (xs : List CopyKept) (x : CopyKept) → k < length xs → x ≡ get_or xs k x → IfSome (slice_get xs k) P → P x
+some_at P k [] x lt is p = absurd (omega arith)
+some_at P zero (y ∷ xs) x lt is p = subst P (sym is) p
+some_at P (suc k) (y ∷ xs) x lt is p = some_at P k xs x (omega arith) is p
+
+pub few_mapped : (f : CopyKept → CopyKept) → ((c : CopyKept) → (f c).fed ≡ c.fed) → (m k : ℕ) (xs : List CopyKept) → IfSome (slice_get xs k) (λ c. c.fed < m) → IfSome (slice_get (map f xs) k) (λ c. c.fed < m)
+few_mapped f same m k [] p = p
+few_mapped f same m zero (x ∷ xs) p = omega (arith, same x, p)
+few_mapped f same m (suc k) (x ∷ xs) p = few_mapped f same m k xs p

@@ -9,3 +9,6 @@ pub mod Heard
 pub mod Steps
 pub mod Ended
 pub mod EndSteps
+pub mod Silent
+pub mod Masked
+pub mod Asked

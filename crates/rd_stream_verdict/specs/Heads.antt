@@ -9,6 +9,8 @@ use Rattle.rd_base.specs.declared.values.MaskLimits.{MaskLimits}
 use Rattle.rd_base.specs.declared.verdict.Verdict.{Verdict}
 use Rattle.rd_base.specs.declared.verdict.Verdict.TheVariants.{Disagree, Noise}
 use Rattle.rd_stream_verdict.specs.Kept.{CopyKept}
+use Rattle.rd_stream_verdict.specs.declared.judging.Judged.{Judged}
+use Rattle.rd_stream_verdict.specs.declared.judging.Judged.TheVariants.{Fault, Masked, Same}
 
 -- a copy that must say more before the next place is judged
 abbrev pub is_behind : CopyKept → Bool
@@ -82,3 +84,12 @@ heads_fault most place masked heads =
 -- the copies' texts, where all are words that a row may hold
 abbrev pub heads_row : List (Option Token) → Option (List (List ℕ))
 heads_row heads = if list_all is_row_word (map text_or_none heads) then Some (map text_or_none heads) else None
+
+-- what a place comes to below which so many are masked
+abbrev pub judged_by : Option Verdict → Bool → Option (List (List ℕ)) → Judged
+judged_by (Some fault) masked row = Fault fault
+judged_by None true row = Masked row
+judged_by None false row = Same
+
+abbrev pub heads_judged : MaskLimits → ℕ → ℕ → List (Option Token) → Judged
+heads_judged most place masked heads = judged_by (heads_fault most place masked heads) (heads_masked heads) (heads_row heads)

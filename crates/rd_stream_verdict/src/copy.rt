@@ -1,8 +1,6 @@
-ghost use Rattle.std.specs.Prelude.{◌≡◌, ◌<◌, ◌-◌, ◌^◌, [], List, length, map, slice_get, false, OnOk, OnErr};
-ghost use Rattle.rd_base.specs.Token.{Token};
-ghost use Rattle.rd_stream_verdict.specs.Kept.{CopyKept};
+ghost use Rattle.std.specs.Prelude.{◌≡◌, ◌<◌, ◌-◌, ◌^◌, [], slice_get, false, OnOk, OnErr};
 ghost use Rattle.rd_stream_verdict.specs.Queue.{bytes_in};
-ghost use Rattle.rd_stream_verdict.specs.Heads.{is_behind, none_behind, only_behind, counted, waits, closed, passed, cleared};
+ghost use Rattle.rd_stream_verdict.specs.Heads.{is_behind, counted, waits, closed, passed, cleared};
 
 use crate::queue::TokenQueue;
 use crate::token::TokenRef;
@@ -109,39 +107,5 @@ impl CopyBuffer {
         ensures { self.new ≡ cleared self.old }
     {
         self.waiting.clear();
-    }
-}
-
-/// Whether this copy is behind, and no other one.
-pub(crate) fn is_only_behind(copies: &[CopyBuffer], copy: usize) -> bool
-    requires { copy < length copies.now }
-    ensures { result ≡ only_behind copy copies.now }
-{
-    copies[copy].is_behind()
-        && is_none_behind(&copies[copy + 1..])
-        && is_none_behind(&copies[..copy])
-}
-
-fn is_none_behind(copies: &[CopyBuffer]) -> bool
-    ensures { result ≡ none_behind copies.now }
-{
-    copies.iter().all(|copy| !copy.is_behind())
-}
-
-/// Drops each copy's first token that waits.
-pub(crate) fn pass_all(copies: &mut [CopyBuffer])
-    ensures { copies.new ≡ map passed copies.old }
-{
-    for copy in copies.iter_mut() {
-        copy.pass();
-    }
-}
-
-/// Drops all tokens that wait.
-pub(crate) fn clear_all(copies: &mut [CopyBuffer])
-    ensures { copies.new ≡ map cleared copies.old }
-{
-    for copy in copies.iter_mut() {
-        copy.clear();
     }
 }

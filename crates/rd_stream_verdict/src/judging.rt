@@ -2,12 +2,46 @@ ghost use Rattle.std.specs.Prelude.{◌≡◌, ◌≤◌, ◌<◌, ◌^◌, ℕ,
 ghost use Rattle.std.specs.List.{position, list_any};
 ghost use Rattle.rd_base.specs.Swap.{is_row_word, IsRowWord};
 ghost use Rattle.rd_base.specs.Verdicts.{least_disagrees, same, is_soft, is_long, one_alone};
-ghost use Rattle.rd_stream_verdict.specs.Heads.{heads_masked, heads_alone_fault, heads_masked_fault, heads_plain_fault, heads_fault, heads_row};
+ghost use Rattle.rd_stream_verdict.specs.Heads.{heads_masked, heads_alone_fault, heads_masked_fault, heads_plain_fault, heads_fault, heads_row, heads_judged};
 
 use crate::token::{TokenRef, is_long, is_one_alone, is_same, is_soft, word};
 use rd_base::{MaskLimits, Row, Verdict, is_row_word};
 
-pub(crate) fn is_masked(heads: &[Option<TokenRef>]) -> bool
+/// What a place comes to.
+#[derive(Drop)]
+pub(crate) enum Judged {
+    /// It has this fault.
+    Fault(Verdict),
+    /// It is masked, and gives this row.
+    Masked(Option<Row>),
+    /// All copies have the same token.
+    Same,
+}
+
+/// What a place comes to where the copies have these tokens, and below which so many places are masked.
+pub(crate) fn judge_heads(
+    heads: &[Option<TokenRef>],
+    most: MaskLimits,
+    place: u32,
+    masked: usize,
+) -> Judged
+    requires three { 3 ≤ length heads.now }
+    requires few { length heads.now ≤ 8 }
+    ensures { result ≡ heads_judged most place masked heads.now }
+{
+    match fault_of(heads, most, place, masked) {
+        Some(fault) => Judged::Fault(fault),
+        None => {
+            if is_masked(heads) {
+                Judged::Masked(row_of(heads))
+            } else {
+                Judged::Same
+            }
+        }
+    }
+}
+
+fn is_masked(heads: &[Option<TokenRef>]) -> bool
     requires { 3 ≤ length heads.now }
     ensures { result ≡ heads_masked heads.now }
 {
@@ -15,7 +49,7 @@ pub(crate) fn is_masked(heads: &[Option<TokenRef>]) -> bool
 }
 
 /// The fault at a place where the copies have these tokens, and below which so many places are masked.
-pub(crate) fn fault_of(
+fn fault_of(
     heads: &[Option<TokenRef>],
     most: MaskLimits,
     place: u32,
@@ -47,7 +81,7 @@ pub(crate) fn alone_fault_of(heads: &[Option<TokenRef>], place: u32) -> Option<V
 }
 
 /// The row of tokens that are all Soft, if all are words that a row may hold.
-pub(crate) fn row_of(heads: &[Option<TokenRef>]) -> Option<Row>
+fn row_of(heads: &[Option<TokenRef>]) -> Option<Row>
     requires three { 3 ≤ length heads.now }
     requires few { length heads.now ≤ 8 }
     requires soft { All (λ head. is_soft head ≡ true) heads.now }

@@ -1,6 +1,7 @@
 // The verdict of several token lists that come token by token.
 #![tactic(auto)]
 
+mod buffers;
 mod copy;
 mod heads;
 mod judging;

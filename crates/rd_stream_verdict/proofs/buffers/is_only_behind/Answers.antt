@@ -2,8 +2,8 @@ use Rattle.std.proofs.Common.{◌≡◌, ◌+◌, Bool, ◌&&◌, ◌∙◌, ap,
 use Rattle.std.proofs.lemmas.List.{take_rest}
 use Rattle.rd_stream_verdict.specs.Heads.{is_behind, none_behind, only_behind}
 use Rattle.rd_stream_verdict.proofs.Behind.{only_by}
-use Rattle.rd_stream_verdict.proofs.copy.is_only_behind.Goals as goal
-use Rattle.rd_stream_verdict.proofs.copy.is_only_behind.Goals.{then-is_behind, else-is_behind}
+use Rattle.rd_stream_verdict.proofs.buffers.is_only_behind.Goals as goal
+use Rattle.rd_stream_verdict.proofs.buffers.is_only_behind.Goals.{then-is_behind, else-is_behind}
 
 pub returns-then-is_none_behind : goal.returns-then-is_none_behind
 returns-then-is_none_behind c =

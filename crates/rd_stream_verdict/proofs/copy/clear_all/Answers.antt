@@ -1,9 +1,0 @@
-use Rattle.std.proofs.Common.{◌∙◌, ap, sym, set}
-use Rattle.std.proofs.lemmas.List.Edits.{map_over_more}
-use Rattle.rd_stream_verdict.specs.Heads.{cleared}
-use Rattle.rd_stream_verdict.proofs.copy.clear_all.Goals as goal
-
-pub loop-copy-preserved : goal.loop-copy-preserved
-loop-copy-preserved c =
-    ap (set c.loop-copy.copies c.loop-copy.copy-index) (c.clear.ensures ∙ ap cleared (sym c.copy-item.is))
-    ∙ map_over_more cleared c.args.copies.now c.loop-copy.copies c.loop-copy.copy-index c.copy-item.result c.loop-copy-test.true c.loop-copy.invariant c.copy-item.is

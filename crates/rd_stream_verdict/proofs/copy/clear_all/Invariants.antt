@@ -1,6 +1,0 @@
-use Rattle.std.proofs.Common.{◌≡◌, ◌++◌, map, take, drop}
-use Rattle.rd_stream_verdict.specs.Heads.{cleared}
-use Rattle.rd_stream_verdict.proofs.copy.clear_all.Given as goal
-
-abbrev pub invariant-loop-copy : goal.invariant-loop-copy
-invariant-loop-copy l = l.copies ≡ map cleared (take l.copy-index l.initial.copies) ++ drop l.copy-index l.initial.copies
