@@ -1,5 +1,5 @@
 -- What a step is asked for, and what its parts answer.
-use Rattle.std.proofs.Common.{◌≡◌, ℕ, zero, suc, ◌-◌, ◌<◌, ◌^◌, Bool, true, false, List, [], ◌∷◌, ◌++◌, length, map, get_or, Option, Some, None, refl, ap, sym, subst, ◌∙◌, arith}
+use Rattle.std.proofs.Common.{◌≡◌, ℕ, zero, suc, ◌<◌, Bool, true, false, List, [], ◌∷◌, ◌++◌, length, map, get_or, Option, Some, None, refl, ap, sym, subst, ◌∙◌, arith}
 use Rattle.std.specs.Prelude.{slice_get, IfSome, OnOk, OnErr, Result, Ok, Err, option_to_list}
 use Rattle.std.specs.List.{All}
 use Rattle.rd_base.specs.Heard.{lists_of, judged_places}
@@ -7,14 +7,13 @@ use Rattle.rd_base.specs.Verdicts.{is_agreed, mask_of, masked_below}
 use Rattle.rd_base.specs.declared.verdict.Verdict.{Verdict}
 use Rattle.rd_base.specs.declared.verdict.Verdict.TheVariants.{Agreed, Disagree, Noise}
 use Rattle.rd_verdict.proofs.Places.{masked_all}
-use Rattle.rd_stream_verdict.specs.declared.judging.Judged.{Judged}
 use Rattle.rd_stream_verdict.specs.declared.judging.Judged.TheVariants.{Fault, Masked, Same}
 use Rattle.rd_base.specs.Token.{Token}
 use Rattle.rd_stream_verdict.specs.Said.{at_place}
 use Rattle.rd_stream_verdict.specs.Kept.{Kept, CopyKept, IsReached, HasHeard}
 use Rattle.rd_stream_verdict.specs.Heads.{only_behind, judged_by, counted, waits, passed, cleared, heads_with, heads_fault, heads_masked, heads_row, heads_judged}
 use Rattle.rd_stream_verdict.proofs.Heard.{masked_so_far}
-use Rattle.rd_stream_verdict.proofs.Steps.{IsOpenIn, IsNext, AtNext, at_next, stop_heard, pass_heard, mask_heard, wait_heard, reached_heard}
+use Rattle.rd_stream_verdict.proofs.Steps.{IsOpenIn, IsNext, at_next, stop_heard, pass_heard, mask_heard, wait_heard, reached_heard}
 use Rattle.rd_stream_verdict.proofs.KeptCopies.{few_mapped}
 
 pub judged_fault : (v : Verdict) (f : Option Verdict) (m : Bool) (row : Option (List (List ℕ))) → Fault v ≡ judged_by f m row → f ≡ Some v

@@ -1,5 +1,5 @@
 -- A place's fault, mask and row by the tokens there.
-use Rattle.std.proofs.Common.{◌≡◌, ℕ, zero, suc, ◌+◌, ◌<◌, ◌≤◌, Bool, true, false, cond, not, ◌&&◌, ◌||◌, List, [], ◌∷◌, ◌++◌, length, map, Option, Some, None, refl, ap, sym, ◌∙◌, add-one, length-append, arith}
+use Rattle.std.proofs.Common.{◌≡◌, ℕ, suc, ◌+◌, Bool, true, false, cond, not, ◌&&◌, ◌||◌, List, [], ◌∷◌, ◌++◌, length, map, Option, Some, None, refl, ap, sym, ◌∙◌, length-append, arith}
 use Rattle.std.proofs.lemmas.List.{length-map, map-append}
 use Rattle.std.specs.Prelude.{slice_get, nat_lt, nat_le, option_map, option_to_list, filter}
 use Rattle.std.specs.List.{position, position_or_len, prefix_len, list_any, list_all}
@@ -10,8 +10,7 @@ use Rattle.rd_base.specs.Token.{Token}
 use Rattle.rd_base.specs.Swap.{is_row_word}
 use Rattle.rd_base.specs.Verdicts.{fault, masked_fault, plain_fault, or_fault, least_disagrees, masked_below, is_masked, is_soft, is_long, one_alone, same, in_list, token_at, text_or_none, texts_at, rows_at}
 use Rattle.rd_base.specs.declared.values.MaskLimits.{MaskLimits}
-use Rattle.rd_base.specs.declared.verdict.Verdict.{Verdict}
-use Rattle.rd_base.specs.declared.verdict.Verdict.TheVariants.{Agreed, Disagree, Noise}
+use Rattle.rd_base.specs.declared.verdict.Verdict.TheVariants.{Disagree, Noise}
 use Rattle.rd_stream_verdict.specs.Heads.{joined, head_at, heads_masked, heads_alone_fault, heads_masked_fault, heads_plain_fault, heads_fault, heads_row}
 
 abbrev pub heads_at : List (List Token) → ℕ → List (Option Token)

@@ -1,19 +1,18 @@
 -- What is kept after an end.
-use Rattle.std.proofs.Common.{◌≡◌, ℕ, ◌+◌, ◌<◌, ◌≤◌, Bool, true, false, List, [], ◌∷◌, length, map, Option, Some, None, refl, ap, sym, subst, ◌∙◌, arith}
+use Rattle.std.proofs.Common.{◌≡◌, ℕ, ◌<◌, true, false, List, [], length, map, Option, Some, None, refl, ap, sym, subst, ◌∙◌, arith}
 use Rattle.std.proofs.lemmas.List.{length-map}
 use Rattle.rd_base.specs.Limits.{AreMaskLimits}
 use Rattle.rd_base.specs.Heard.{Heard, lists_of, judged_places, early_verdict}
 use Rattle.rd_base.specs.Verdicts.{is_agreed, mask_of, rows_at, least_disagrees}
-use Rattle.rd_base.specs.declared.values.MaskLimits.{MaskLimits}
 use Rattle.rd_base.specs.declared.verdict.Verdict.{Verdict}
 use Rattle.rd_base.specs.declared.verdict.Verdict.TheVariants.{Agreed, Disagree, Noise}
 use Rattle.rd_stream_verdict.specs.Said.{at_place, ends, with_end}
-use Rattle.rd_stream_verdict.specs.Kept.{Kept, CopyKept, kept_of, IsAt, IsReached, HasClosed}
+use Rattle.rd_stream_verdict.specs.Kept.{Kept, kept_of, IsAt, IsReached, HasClosed}
 use Rattle.rd_stream_verdict.specs.Heads.{only_behind, closed, cleared, heads_with, heads_alone_fault}
-use Rattle.rd_stream_verdict.proofs.Reached.{IsOpen, judged_other_end, end_lists}
+use Rattle.rd_stream_verdict.proofs.Reached.{judged_other_end, end_lists}
 use Rattle.rd_stream_verdict.proofs.KeptCopies.{kept_close, kept_close_clear, length-place}
 use Rattle.rd_stream_verdict.proofs.Ended.{end_none, end_alone, end_same, end_fault}
-use Rattle.rd_stream_verdict.proofs.Steps.{IsOpenIn, IsNext, AtNext, at_next, open_in, made_at, mask_none}
+use Rattle.rd_stream_verdict.proofs.Steps.{IsOpenIn, IsNext, at_next, open_in, made_at, mask_none}
 
 -- the copy is closed, and all else stays
 pub record OnlyCloses (k : ℕ) (old new : Kept) : Type 0 where
@@ -54,7 +53,7 @@ last_closed old new k place mask next none closes = record { most = closes.most;
         let q = judged_places h in
         let there : k < length (map (kept_of true q) h) = omega (arith, next.may.there, ap length n.copies) in
         let alone : heads_alone_fault q (heads_with k None (map (kept_of true q) h)) ≡ None =
-          ap (λ xs. heads_alone_fault q (heads_with k None xs)) (sym n.copies) ∙ ap (λ p. heads_alone_fault p (heads_with k None old.copies)) n.judged ∙ none in
+        ap (λ xs. heads_alone_fault q (heads_with k None xs)) (sym n.copies) ∙ ap (λ p. heads_alone_fault p (heads_with k None old.copies)) n.judged ∙ none in
         stays old new k h closes at (end_none k h n.only there alone)
 
 alone_fault : (p : ℕ) (o : Option ℕ) (v : Verdict) → least_disagrees p o ≡ Some v → is_agreed v ≡ false
@@ -73,7 +72,7 @@ stop_closed old new k place mask v next is most found rows copies = record { mos
         let q = judged_places h in
         let fault_is : is_agreed v ≡ false = alone_fault place _ v is in
         let alone : heads_alone_fault q (heads_with k None (map (kept_of true q) h)) ≡ Some v =
-          ap (λ xs. heads_alone_fault q (heads_with k None xs)) (sym n.copies) ∙ ap (λ p. heads_alone_fault p (heads_with k None old.copies)) n.judged ∙ is in
+        ap (λ xs. heads_alone_fault q (heads_with k None xs)) (sym n.copies) ∙ ap (λ p. heads_alone_fault p (heads_with k None old.copies)) n.judged ∙ is in
         let early : early_verdict new.most h2 ≡ v = ap (λ m. early_verdict m h2) most ∙ end_alone old.most k h v (ap is_agreed n.early) n.only alone fault_is in
         made_at h2 new v (judged_places h2) early found (rows ∙ ap (rows_at (lists_of h2)) (sym (mask_none v fault_is))) refl
         (copies ∙ ap (λ xs. at_place closed k (map cleared xs)) n.copies ∙ kept_close_clear k q (judged_places h2) h ∙ ap (λ b. map (kept_of b (judged_places h2)) h2) (sym fault_is))

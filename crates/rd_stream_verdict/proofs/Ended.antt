@@ -1,12 +1,12 @@
 -- What is found with an end.
-use Rattle.std.proofs.Common.{◌≡◌, ℕ, zero, suc, ◌+◌, ◌<◌, ◌≤◌, max, Bool, true, false, cond, not, List, [], ◌∷◌, length, map, get_or, Option, Some, None, refl, ap, sym, subst, ◌∙◌, ◌⊎◌, inl, inr, zero-add, arith}
-use Rattle.std.specs.Prelude.{slice_get, slice_set, nat_lt}
+use Rattle.std.proofs.Common.{◌≡◌, ℕ, zero, suc, ◌+◌, ◌<◌, ◌≤◌, Bool, true, false, cond, not, List, [], ◌∷◌, length, map, get_or, Option, Some, None, refl, ap, sym, subst, ◌∙◌, inl, inr, zero-add, arith}
+use Rattle.std.specs.Prelude.{slice_get, nat_lt}
 use Rattle.std.specs.List.{All, position, position_or_len}
 use Rattle.std.proofs.lemmas.Bool.{cases_lt, ltb-false, not-true}
 use Rattle.std.proofs.lemmas.List.{get_or-set_same, length-set, length-map}
 use Rattle.std.proofs.lemmas.List.Sums.{prefix_len_passes}
 use Rattle.std.proofs.lemmas.List.Quantifiers.{position-Some}
-use Rattle.std.proofs.lemmas.Option.{slice_get_past, slice_get-get_or}
+use Rattle.std.proofs.lemmas.Option.{slice_get_past}
 use Rattle.rd_base.specs.Token.{Token}
 use Rattle.rd_base.specs.Heard.{Heard, lists_of, judged_places, early_verdict}
 use Rattle.rd_base.specs.Verdicts.{verdict_from, fault, fault_or, or_fault, least_disagrees, one_alone, masked_below, masked_fault, plain_fault, is_masked, is_agreed, longest}
@@ -16,7 +16,7 @@ use Rattle.rd_base.specs.declared.verdict.Verdict.TheVariants.{Agreed}
 use Rattle.rd_stream_verdict.specs.Said.{with_end}
 use Rattle.rd_stream_verdict.specs.Kept.{CopyKept, kept_of}
 use Rattle.rd_stream_verdict.specs.Heads.{only_behind, heads_with, head_at, heads_alone_fault}
-use Rattle.rd_stream_verdict.proofs.Reached.{IsOpen, judged_in, judged_least, judged_most, judged_other_end, end_lists, end_more, behind_end}
+use Rattle.rd_stream_verdict.proofs.Reached.{judged_least, judged_most, end_lists, end_more, behind_end}
 use Rattle.rd_stream_verdict.proofs.ByHeads.{heads_at, alone_by}
 use Rattle.rd_stream_verdict.proofs.Further.{verdict_next, verdict_stays}
 use Rattle.rd_stream_verdict.proofs.KeptCopies.{heads_end}
@@ -117,9 +117,9 @@ end_alone most k h v agreed only is fault_is =
     let alone : heads_alone_fault q (heads_at xs q) ≡ Some v = ap (heads_alone_fault q) (sym (heads_end k q h only)) ∙ is in
     let here : fault most xs q ≡ Some v = ap (λ a. or_fault a (cond (is_masked xs q) (masked_fault most xs q) (plain_fault xs q))) (alone_by xs q ∙ alone) in
     let next : verdict_from most xs 0 (suc q) ≡ v =
-      verdict_next most xs 0 q agreed
-      ∙ ap (λ p. fault_or (fault most xs p) (Agreed (masked_below xs (suc p)))) (zero-add q)
-      ∙ ap (λ f. fault_or f (Agreed (masked_below xs (suc q)))) here in
+    verdict_next most xs 0 q agreed
+    ∙ ap (λ p. fault_or (fault most xs p) (Agreed (masked_below xs (suc p)))) (zero-add q)
+    ∙ ap (λ f. fault_or f (Agreed (masked_below xs (suc q)))) here in
     let long : q + 1 ≤ longest xs = elim (cases_lt q (longest xs)) [ inl lt ↦ omega arith | inr le ↦ absurd (both (heads_alone_fault q (heads_at xs q)) v alone (nones_alone q (heads_at xs q) (short_nones q xs le))) ] in
     let further : q + 1 ≤ judged_places (with_end k h) = judged_most (longest (lists_of (with_end k h))) (with_end k h) (q + 1) (omega (arith, ap longest (end_lists k h), long)) (behind_end k q h only) in
     ap (λ ls. verdict_from most ls 0 (judged_places (with_end k h))) (end_lists k h)

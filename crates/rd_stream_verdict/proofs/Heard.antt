@@ -1,5 +1,5 @@
 -- What is found with a token more.
-use Rattle.std.proofs.Common.{◌≡◌, ℕ, suc, ◌+◌, ◌≤◌, Bool, true, false, cond, List, [], ◌∷◌, ◌++◌, length, map, Some, refl, ap, sym, ◌∙◌, add-one, zero-add, arith}
+use Rattle.std.proofs.Common.{◌≡◌, ℕ, suc, true, false, cond, List, [], ◌∷◌, ◌++◌, length, map, Some, ap, sym, ◌∙◌, zero-add, arith}
 use Rattle.rd_base.specs.Token.{Token}
 use Rattle.rd_base.specs.Heard.{Heard, lists_of, judged_places, early_verdict}
 use Rattle.rd_base.specs.Verdicts.{verdict_from, fault, fault_or, masked_below, is_masked, is_agreed, longest}
@@ -8,7 +8,7 @@ use Rattle.rd_base.specs.declared.verdict.Verdict.TheVariants.{Agreed}
 use Rattle.rd_stream_verdict.specs.Said.{with_token}
 use Rattle.rd_stream_verdict.specs.Kept.{kept_of}
 use Rattle.rd_stream_verdict.specs.Heads.{only_behind, heads_with, heads_masked, heads_fault}
-use Rattle.rd_stream_verdict.proofs.Reached.{IsOpen, Reaches, judged_in, judged_behind, judged_other, token_more}
+use Rattle.rd_stream_verdict.proofs.Reached.{IsOpen, judged_in, judged_behind, judged_other, token_more}
 use Rattle.rd_stream_verdict.proofs.ByHeads.{heads_at, masked_by, fault_by}
 use Rattle.rd_stream_verdict.proofs.Same.{AreSame, below_same, verdict_same}
 use Rattle.rd_stream_verdict.proofs.Further.{verdict_next, verdict_stays, verdict_agreed}

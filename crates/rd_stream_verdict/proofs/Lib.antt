@@ -12,3 +12,5 @@ pub mod EndSteps
 pub mod Silent
 pub mod Masked
 pub mod Asked
+pub mod Answered
+pub mod KeptBytes

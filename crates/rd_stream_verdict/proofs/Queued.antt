@@ -1,8 +1,7 @@
 -- A queue's tokens, one more behind them, and their bytes.
-use Rattle.std.proofs.Common.{◌≡◌, ℕ, ◌+◌, ◌≤◌, List, [], ◌∷◌, ◌++◌, length, take, drop, refl, ap, sym, ◌∙◌, arith, zero-add, add-zero, length-append, length-drop, length-take}
-use Rattle.std.specs.Prelude.{map}
+use Rattle.std.proofs.Common.{◌≡◌, ℕ, ◌+◌, ◌≤◌, List, [], ◌∷◌, ◌++◌, length, take, drop, refl, ap, ◌∙◌, arith, length-drop, length-take}
 use Rattle.std.proofs.lemmas.List.{take-append-le, drop-append-le, take_all, length-map}
-use Rattle.rd_base.specs.Token.{Token, token, text_of}
+use Rattle.rd_base.specs.Token.{token, text_of}
 use Rattle.rd_base.specs.declared.values.TokenKind.{TokenKind}
 use Rattle.rd_base.specs.declared.values.TokenKind.TheVariants.{Soft, Firm, Name}
 use Rattle.rd_stream_verdict.specs.Queue.{tokens_of, cut_bytes, bytes_in}

@@ -1,5 +1,5 @@
 -- How far all copies have come, and how far after a token more or an end.
-use Rattle.std.proofs.Common.{◌≡◌, ℕ, zero, suc, ◌+◌, ◌-◌, ◌<◌, ◌≤◌, min, max, Bool, true, false, cond, not, ◌&&◌, List, [], ◌∷◌, ◌++◌, length, map, drop, refl, ap, sym, subst, ◌∙◌, arith, ◌⊎◌, inl, inr}
+use Rattle.std.proofs.Common.{◌≡◌, ℕ, zero, suc, ◌+◌, ◌≤◌, min, Bool, true, false, cond, not, ◌&&◌, List, [], ◌∷◌, length, map, drop, refl, ap, ◌∙◌, arith, inl, inr}
 use Rattle.std.proofs.lemmas.Bool.{cases_lt}
 use Rattle.std.proofs.lemmas.List.{length_push}
 use Rattle.rd_base.specs.Token.{Token}
@@ -7,7 +7,7 @@ use Rattle.rd_base.specs.Words.{is_empty}
 use Rattle.rd_base.specs.Heard.{Heard, judged_of, judged_places, lists_of}
 use Rattle.rd_base.specs.Verdicts.{longest}
 use Rattle.rd_stream_verdict.specs.Said.{with_token, with_end}
-use Rattle.rd_stream_verdict.specs.Kept.{CopyKept, kept_of}
+use Rattle.rd_stream_verdict.specs.Kept.{kept_of}
 use Rattle.rd_stream_verdict.specs.Heads.{is_behind, none_behind, only_behind}
 
 -- each copy is whole or has so many tokens
@@ -199,9 +199,9 @@ judged_other k t h only may =
     let after = with_token k t h in
     let more : q ≤ judged_places after = token_more k t h in
     let none : q + 1 ≤ judged_places after → ⊥ = λ far.
-      let reaches = other_token k q t h only may (reaches_less (q + 1) (judged_places after) after far (judged_in (longest (lists_of after)) after)) in
-      let too_far = judged_most (longest (lists_of h)) h (q + 1) (longest_open k (q + 1) h may reaches) reaches in
-      absurd (omega (arith, too_far)) in
+    let reaches = other_token k q t h only may (reaches_less (q + 1) (judged_places after) after far (judged_in (longest (lists_of after)) after)) in
+    let too_far = judged_most (longest (lists_of h)) h (q + 1) (longest_open k (q + 1) h may reaches) reaches in
+    absurd (omega (arith, too_far)) in
     go q (judged_places after) more none
   where
     go : (a b : ℕ) → a ≤ b → (a + 1 ≤ b → ⊥) → b ≡ a
@@ -247,9 +247,9 @@ judged_other_end k h only may =
     let after = with_end k h in
     let more : q ≤ judged_places after = end_more k h in
     let none : q + 1 ≤ judged_places after → ⊥ = λ far.
-      let reaches = other_end k q h only may (reaches_less (q + 1) (judged_places after) after far (judged_in (longest (lists_of after)) after)) in
-      let too_far = judged_most (longest (lists_of h)) h (q + 1) (longest_open k (q + 1) h may reaches) reaches in
-      absurd (omega (arith, too_far)) in
+    let reaches = other_end k q h only may (reaches_less (q + 1) (judged_places after) after far (judged_in (longest (lists_of after)) after)) in
+    let too_far = judged_most (longest (lists_of h)) h (q + 1) (longest_open k (q + 1) h may reaches) reaches in
+    absurd (omega (arith, too_far)) in
     go q (judged_places after) more none
   where
     go : (a b : ℕ) → a ≤ b → (a + 1 ≤ b → ⊥) → b ≡ a

@@ -1,10 +1,9 @@
 -- Copies that have said nothing.
-use Rattle.std.proofs.Common.{◌≡◌, ℕ, zero, suc, ◌≤◌, true, false, List, [], ◌∷◌, length, map, replicate, refl, ap, sym, ◌∙◌, arith}
+use Rattle.std.proofs.Common.{◌≡◌, ℕ, zero, suc, ◌≤◌, true, false, List, [], ◌∷◌, length, map, replicate, refl, ap, ◌∙◌, arith}
 use Rattle.std.proofs.lemmas.List.{length-replicate}
 use Rattle.rd_base.specs.Limits.{AreMaskLimits}
-use Rattle.rd_base.specs.Heard.{Heard, lists_of, judged_places}
+use Rattle.rd_base.specs.Heard.{lists_of, judged_places}
 use Rattle.rd_base.specs.Verdicts.{verdict_from, longest}
-use Rattle.rd_base.specs.declared.values.MaskLimits.{MaskLimits}
 use Rattle.rd_base.specs.declared.verdict.Verdict.TheVariants.{Agreed}
 use Rattle.rd_stream_verdict.specs.Said.{nothing_said}
 use Rattle.rd_stream_verdict.specs.Kept.{Kept, CopyKept, kept_of, IsAt, IsReached}

@@ -1,5 +1,5 @@
 -- What is kept after a token more.
-use Rattle.std.proofs.Common.{◌≡◌, ℕ, suc, ◌+◌, ◌<◌, ◌≤◌, Bool, true, false, cond, List, [], ◌∷◌, ◌++◌, length, map, get_or, Option, Some, None, refl, ap, sym, subst, ◌∙◌, arith}
+use Rattle.std.proofs.Common.{◌≡◌, ℕ, ◌+◌, ◌<◌, Bool, true, false, cond, List, [], ◌∷◌, ◌++◌, length, map, get_or, Some, None, refl, ap, sym, subst, ◌∙◌, arith}
 use Rattle.std.specs.Prelude.{slice_get, IfSome, option_to_list}
 use Rattle.std.proofs.lemmas.List.{length-map, append-nil}
 use Rattle.rd_base.specs.Token.{Token}
@@ -124,9 +124,9 @@ pass_heard old new k place mask t next is unmasked most found rows copies = reco
     go h n =
         let h2 = with_token k t h in
         let early : early_verdict new.most h2 ≡ Agreed mask =
-          ap (λ m. early_verdict m h2) most ∙ next_found old k place mask t h n
-          ∙ ap (λ f. fault_or f (Agreed (mask ++ cond (heads_masked (heads_with k (Some t) old.copies)) (place ∷ []) []))) is
-          ∙ ap (λ b. Agreed (mask ++ cond b (place ∷ []) [])) unmasked ∙ ap Agreed (append-nil mask) in
+        ap (λ m. early_verdict m h2) most ∙ next_found old k place mask t h n
+        ∙ ap (λ f. fault_or f (Agreed (mask ++ cond (heads_masked (heads_with k (Some t) old.copies)) (place ∷ []) []))) is
+        ∙ ap (λ b. Agreed (mask ++ cond b (place ∷ []) [])) unmasked ∙ ap Agreed (append-nil mask) in
         made_at h2 new (Agreed mask) (judged_places h + 1) early (found ∙ next.found) (rows ∙ sym (next_rows old k place mask t h n)) (judged_behind k t h n.only n.may) (copies ∙ next_copies old k place mask t h n)
 
 pub mask_heard : (old new : Kept) (k place : ℕ) (mask : List ℕ) (t : Token) → IsNext old k place mask → heads_fault old.most place (length mask) (heads_with k (Some t) old.copies) ≡ None → heads_masked (heads_with k (Some t) old.copies) ≡ true → new.most ≡ old.most → new.found ≡ Agreed (mask ++ place ∷ []) → new.rows ≡ old.rows ++ option_to_list (heads_row (heads_with k (Some t) old.copies)) → new.copies ≡ at_place counted k (map passed old.copies) → HasHeard k t old new
@@ -137,15 +137,15 @@ mask_heard old new k place mask t next is masked most found rows copies = record
         let h2 = with_token k t h in
         let q = judged_places h in
         let early : early_verdict new.most h2 ≡ Agreed (mask ++ place ∷ []) =
-          ap (λ m. early_verdict m h2) most ∙ next_found old k place mask t h n
-          ∙ ap (λ f. fault_or f (Agreed (mask ++ cond (heads_masked (heads_with k (Some t) old.copies)) (place ∷ []) []))) is
-          ∙ ap (λ b. Agreed (mask ++ cond b (place ∷ []) [])) masked in
+        ap (λ m. early_verdict m h2) most ∙ next_found old k place mask t h n
+        ∙ ap (λ f. fault_or f (Agreed (mask ++ cond (heads_masked (heads_with k (Some t) old.copies)) (place ∷ []) []))) is
+        ∙ ap (λ b. Agreed (mask ++ cond b (place ∷ []) [])) masked in
         let heads : heads_with k (Some t) old.copies ≡ heads_at (lists_of h2) q = ap (heads_with k (Some t)) n.copies ∙ heads_token k q t h n.only (judged_in (longest (lists_of h)) h) in
         let row : rows_at (lists_of h2) (mask ++ place ∷ []) ≡ old.rows ++ option_to_list (heads_row (heads_with k (Some t) old.copies)) =
-          ap (λ p. rows_at (lists_of h2) (mask ++ p ∷ [])) (sym n.judged)
-          ∙ rows_push (lists_of h2) mask q
-          ∙ ap (λ rs. rs ++ option_to_list (heads_row (heads_at (lists_of h2) q))) (next_rows old k place mask t h n)
-          ∙ ap (λ os. old.rows ++ option_to_list (heads_row os)) (sym heads) in
+        ap (λ p. rows_at (lists_of h2) (mask ++ p ∷ [])) (sym n.judged)
+        ∙ rows_push (lists_of h2) mask q
+        ∙ ap (λ rs. rs ++ option_to_list (heads_row (heads_at (lists_of h2) q))) (next_rows old k place mask t h n)
+        ∙ ap (λ os. old.rows ++ option_to_list (heads_row os)) (sym heads) in
         made_at h2 new (Agreed (mask ++ place ∷ [])) (q + 1) early found (rows ∙ sym row) (judged_behind k t h n.only n.may) (copies ∙ next_copies old k place mask t h n)
 
 same_rows : (most : MaskLimits) (k : ℕ) (t : Token) (h : List Heard) → is_agreed (early_verdict most h) ≡ true → IsOpen k h → rows_at (lists_of h) (mask_of (early_verdict most h)) ≡ rows_at (lists_of (with_token k t h)) (mask_of (early_verdict most h))

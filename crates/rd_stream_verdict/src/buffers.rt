@@ -1,7 +1,7 @@
 ghost use Rattle.std.specs.Prelude.{◌≡◌, ◌≤◌, ◌<◌, ◌-◌, ◌^◌, [], length, map, replicate, slice_get, slice_index_or, Some, None, false, IfOk, IfSome, OnOk, OnErr};
 ghost use Rattle.std.specs.List.{list_all};
 ghost use Rattle.rd_stream_verdict.specs.Said.{at_place};
-ghost use Rattle.rd_stream_verdict.specs.Queue.{bytes_in};
+ghost use Rattle.rd_stream_verdict.specs.Kept.{waiting_bytes};
 ghost use Rattle.rd_stream_verdict.specs.Heads.{none_behind, only_behind, counted, waits, closed, passed, cleared, heads_with, heads_judged, heads_alone_fault};
 
 use crate::copy::CopyBuffer;
@@ -52,7 +52,8 @@ impl Buffers {
     /// The bytes of the copy's tokens that wait.
     pub(crate) fn bytes(&self, copy: usize) -> usize
         requires { copy < length self.now }
-        ensures { IfSome (slice_get self.now copy) (λ c. result ≡ bytes_in c.waiting) }
+        ensures bytes { result ≡ waiting_bytes (slice_get self.now copy) }
+        ensures most { result < 2 ^ 63 }
     {
         self.kept[copy].bytes()
     }

@@ -65,7 +65,8 @@ impl CopyBuffer {
 
     /// The bytes of the tokens that wait.
     pub(crate) fn bytes(&self) -> usize
-        ensures { result ≡ bytes_in self.now.waiting }
+        ensures bytes { result ≡ bytes_in self.now.waiting }
+        ensures most { result < 2 ^ 63 }
     {
         self.waiting.bytes()
     }

@@ -1,10 +1,10 @@
-ghost use Rattle.std.specs.Prelude.{◌≡◌, ◌++◌, [], ◌∷◌, drop, slice_get, OnOk, OnErr};
+ghost use Rattle.std.specs.Prelude.{◌≡◌, ◌<◌, ◌^◌, ◌++◌, [], ◌∷◌, drop, slice_get, OnOk, OnErr};
 ghost use Rattle.rd_base.specs.Token.{token};
 ghost use Rattle.rd_base.specs.Words.{is_empty};
 ghost use Rattle.rd_stream_verdict.specs.Queue.{bytes_in};
 
 use crate::token::TokenRef;
-use rd_base::{Bytes, NoMemory, TokenKind};
+use rd_base::{NoMemory, TokenKind};
 use std::alloc::Global;
 use std::collections::VecDeque;
 use std::marker::Model;
@@ -19,7 +19,7 @@ pub(crate) struct Cut {
 /// Tokens that wait: their joined bytes stand past the first `start`, in a buffer whose room is used again.
 #[derive(Drop)]
 pub(crate) struct TokenQueue {
-    flat: Bytes,
+    flat: Vec<u8>,
     start: usize,
     cuts: VecDeque<Cut>,
 }
@@ -31,9 +31,9 @@ impl Model for TokenQueue {
 
     ghost Value = { List Token };
 
-    ghost view = { λ q. tokens_of (drop q.start q.flat) q.cuts.items };
+    ghost view = { λ q. tokens_of (drop q.start q.flat.items) q.cuts.items };
 
-    ghost invariant = { λ q. IsFilled q.flat q.start q.cuts.items };
+    ghost invariant = { λ q. IsFilled q.flat.items q.start q.cuts.items };
 }
 
 impl TokenQueue {
@@ -42,7 +42,7 @@ impl TokenQueue {
         ensures { result ≡ [] }
     {
         TokenQueue {
-            flat: Bytes::new(alloc),
+            flat: Vec::new(alloc),
             start: 0,
             cuts: VecDeque::new(alloc),
         }
@@ -66,11 +66,11 @@ impl TokenQueue {
         if self.cuts.push_back(cut).is_err() {
             return Err(NoMemory);
         }
-        match self.flat.push_slice(token.text) {
+        match self.flat.extend_from_slice(token.text) {
             Ok(()) => Ok(()),
-            Err(refused) => {
+            Err(_) => {
                 let _cut = self.cuts.pop_back();
-                Err(refused)
+                Err(NoMemory)
             }
         }
     }
@@ -82,8 +82,10 @@ impl TokenQueue {
         let end = self.flat.len();
         if let Some(cut) = self.cuts.pop_front() {
             self.start += cut.len;
-            if self.start >= end - self.start {
-                self.flat.cut_front(self.start);
+            let rest = end - self.start;
+            if self.start >= rest {
+                self.flat.rotate_left(self.start);
+                self.flat.truncate(rest);
                 self.start = 0;
             }
         }
@@ -104,7 +106,8 @@ impl TokenQueue {
 
     /// The number of bytes of the tokens.
     pub(crate) fn bytes(&self) -> usize
-        ensures { result ≡ bytes_in self.now }
+        ensures bytes { result ≡ bytes_in self.now }
+        ensures most { result < 2 ^ 63 }
     {
         self.flat.len() - self.start
     }
@@ -113,7 +116,7 @@ impl TokenQueue {
     pub(crate) fn clear(&mut self)
         ensures { self.new ≡ [] }
     {
-        self.flat.cut_front(self.flat.len());
+        self.flat.clear();
         self.start = 0;
         self.cuts.clear();
     }

@@ -1,6 +1,6 @@
-use Rattle.std.proofs.Common.{◌≡◌, ◌+◌, Bool, ◌&&◌, ◌∙◌, ap, sym, take, drop, arith}
+use Rattle.std.proofs.Common.{◌≡◌, ◌+◌, ◌&&◌, ◌∙◌, ap, sym, take, drop}
 use Rattle.std.proofs.lemmas.List.{take_rest}
-use Rattle.rd_stream_verdict.specs.Heads.{is_behind, none_behind, only_behind}
+use Rattle.rd_stream_verdict.specs.Heads.{is_behind, none_behind}
 use Rattle.rd_stream_verdict.proofs.Behind.{only_by}
 use Rattle.rd_stream_verdict.proofs.buffers.is_only_behind.Goals as goal
 use Rattle.rd_stream_verdict.proofs.buffers.is_only_behind.Goals.{then-is_behind, else-is_behind}

@@ -1,4 +1,4 @@
-use Rattle.std.proofs.Common.{◌≡◌, ◌<◌, length, get_or, set, ap, sym, ◌∙◌, arith}
+use Rattle.std.proofs.Common.{◌≡◌, ◌<◌, length, set, ap, ◌∙◌, arith}
 use Rattle.std.specs.Prelude.{OnOk, Result, Ok, Err}
 use Rattle.rd_stream_verdict.specs.Said.{at_place}
 use Rattle.rd_stream_verdict.specs.Heads.{waits}
@@ -15,7 +15,7 @@ returns-clause-ok c =
     let there : c.args.copy < length items = omega (arith, c.requires.there, ap length c.self.view_is) in
     let change = waits c.args.token.now in
     on_ok c.wait.result (λ (e : c.wait.new.self ≡ change c.index_mut.result.now).
-      ap (set items c.args.copy) e
-      ∙ set_place change c.args.copy items c.index_mut.result.now there c.index_mut.ensures.value
-      ∙ ap (at_place change c.args.copy) c.self.view_is)
+    ap (set items c.args.copy) e
+    ∙ set_place change c.args.copy items c.index_mut.result.now there c.index_mut.ensures.value
+    ∙ ap (at_place change c.args.copy) c.self.view_is)
     c.wait.ensures.ok

@@ -71,4 +71,3 @@ returns-in-Same-clause-ok c =
     let heard : HasHeard c.args.at c.args.token seen new = same_by seen c.args.at c.fed-place.result c.masked_places-masked.result c.args.token c.pass_all-in-Same.new.self c.count-in-Same.new.self asked c.fed-place.ensures c.masked_places-masked.ensures c.in-Same.ensures c.pass_all-in-Same.ensures c.count-in-Same.ensures in
     let P : Kept → Type 0 = λ old. HasHeard c.args.at c.args.token old new in
     subst P c.self.view_is heard
-
