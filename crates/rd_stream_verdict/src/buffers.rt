@@ -1,4 +1,4 @@
-ghost use Rattle.std.specs.Prelude.{◌≡◌, ◌≤◌, ◌<◌, ◌-◌, ◌^◌, [], length, map, replicate, slice_get, slice_index_or, Some, None, false, IfOk, IfSome, OnOk, OnErr};
+ghost use Rattle.std.specs.Prelude.{◌≡◌, ◌≤◌, ◌<◌, ◌-◌, ◌^◌, [], length, map, replicate, slice_get, slice_index_or, Some, None, false, true, IfOk, IfSome, OnOk, OnErr};
 ghost use Rattle.std.specs.List.{list_all};
 ghost use Rattle.rd_stream_verdict.specs.Said.{at_place};
 ghost use Rattle.rd_stream_verdict.specs.Kept.{waiting_bytes};
@@ -47,6 +47,19 @@ impl Buffers {
         ensures { IfSome (slice_get self.now copy) (λ c. result ≡ c.fed) }
     {
         self.kept[copy].fed()
+    }
+
+    /// Whether the copy is there and may have more tokens.
+    #[cfg(test)]
+    pub(crate) fn can_take(&self, copy: usize) -> bool
+        ensures there { result ≡ true → copy < length self.now }
+        ensures open { result ≡ true → IfSome (slice_get self.now copy) (λ c. c.is_whole ≡ false) }
+        ensures fewer { result ≡ true → IfSome (slice_get self.now copy) (λ c. c.fed < 2 ^ 32 - 1) }
+    {
+        match self.kept.as_slice().get(copy) {
+            Some(kept) => !kept.is_whole() && kept.fed() < u32::MAX,
+            None => false,
+        }
     }
 
     /// The bytes of the copy's tokens that wait.

@@ -145,6 +145,16 @@ impl StreamVerdict {
         }
     }
 
+    /// Whether the copy is there and may have more tokens.
+    #[cfg(test)]
+    fn can_take(&self, copy: u8) -> bool
+        ensures there { result ≡ true → copy < length self.now.copies }
+        ensures open { result ≡ true → IfSome (slice_get self.now.copies copy) (λ c. c.is_whole ≡ false) }
+        ensures fewer { result ≡ true → IfSome (slice_get self.now.copies copy) (λ c. c.fed < 2 ^ 32 - 1) }
+    {
+        self.copies.can_take(copy as usize)
+    }
+
     /// Closes the copy that alone is behind: the next place is judged where another copy has a token there.
     fn close_last(&mut self, at: usize)
         requires there { at < length self.old.copies }
@@ -267,3 +277,6 @@ fn keep_row(rows: &mut Rows, row: Option<Row>) -> Result<(), NoMemory>
         None => Ok(()),
     }
 }
+
+#[cfg(test)]
+mod tests;
