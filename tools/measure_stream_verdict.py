@@ -29,7 +29,7 @@ use rd_base::{Bytes, MaskLimits, NoMemory, TokenSpan, cut_at};
 use rd_stream_verdict::StreamVerdict;
 use rd_verdict::{Copies, Spans, judge};
 use std::alloc::Global;
-use std::process::{Abort, ExitCode};
+use std::process::ExitCode;
 use std::time::Instant;
 
 const MOST: MaskLimits = MaskLimits {
@@ -46,21 +46,23 @@ fn main(rt: HostRuntime) -> ExitCode {
 
 fn measure(rt: &HostRuntime) -> Result<(), NoMemory> {
     let alloc = rt.alloc();
-    let text = words(rt, alloc)?;
-    assert!(rt; text.len() < 2_000_000);
+    let text = words(alloc)?;
+    if !(text.len() < 2_000_000) {
+        return Err(NoMemory);
+    }
     let spans = cut_words(alloc, text.as_slice())?;
-    let copies = copies_of(rt, alloc, text.as_slice())?;
+    let copies = copies_of(alloc, text.as_slice())?;
     let whole = judged(rt, &copies)?;
     let streamed = fed(rt, alloc, text.as_slice(), spans.as_slice())?;
     let _printed = println!(rt; "{whole} {streamed}");
-    let kept = most_kept(rt, alloc, text.as_slice(), spans.as_slice())?;
+    let kept = most_kept(alloc, text.as_slice(), spans.as_slice())?;
     let size = text.len();
     let _printed = println!(rt; "{kept} {size}");
     Ok(())
 }
 
 /// 1 MiB of words of two to nine bytes.
-fn words(rt: &impl Abort, alloc: Global) -> Result<Bytes, NoMemory> {
+fn words(alloc: Global) -> Result<Bytes, NoMemory> {
     let mut text = Bytes::new(alloc);
     for number in 0..1_000_000u32 {
         if text.len() >= 1_048_576 {
@@ -75,7 +77,9 @@ fn words(rt: &impl Abort, alloc: Global) -> Result<Bytes, NoMemory> {
         };
         text.push_slice(word)?;
     }
-    assert!(rt; text.len() >= 1_048_576);
+    if !(text.len() >= 1_048_576) {
+        return Err(NoMemory);
+    }
     Ok(text)
 }
 
@@ -94,7 +98,9 @@ fn now(rt: &HostRuntime) -> Result<Instant, NoMemory> {
 }
 
 fn judged(rt: &HostRuntime, copies: &Copies) -> Result<u64, NoMemory> {
-    assert!(rt; copies.len() >= 3);
+    if !(copies.len() >= 3) {
+        return Err(NoMemory);
+    }
     let since = now(rt)?;
     let _verdict = judge(copies, MOST);
     micros(rt, &since)
@@ -104,49 +110,57 @@ fn fed(rt: &HostRuntime, alloc: Global, text: &[u8], spans: &[TokenSpan]) -> Res
     let mut verdict = StreamVerdict::new(alloc, 8, MOST)?;
     let since = now(rt)?;
     for span in spans {
-        take_turns(rt, &mut verdict, text, span)?;
+        take_turns(&mut verdict, text, span)?;
     }
     for copy in 0..8 {
-        assert!(rt; verdict.can_take(copy));
+        if !(verdict.can_take(copy)) {
+        return Err(NoMemory);
+    }
         verdict.close(copy);
     }
     let _answer = verdict.answer();
     micros(rt, &since)
 }
 
-fn most_kept(rt: &HostRuntime, alloc: Global, text: &[u8], spans: &[TokenSpan]) -> Result<usize, NoMemory> {
+fn most_kept(alloc: Global, text: &[u8], spans: &[TokenSpan]) -> Result<usize, NoMemory> {
     let mut verdict = StreamVerdict::new(alloc, 8, MOST)?;
     let mut most = 0;
     for span in spans {
         for copy in 0..8 {
-            feed_span(rt, &mut verdict, copy, text, span)?;
-            most = most.max(kept_beside_first(rt, &verdict));
+            feed_span(&mut verdict, copy, text, span)?;
+            most = most.max(kept_beside_first(&verdict)?);
         }
     }
     Ok(most)
 }
 
-fn kept_beside_first(rt: &HostRuntime, verdict: &StreamVerdict) -> usize {
+fn kept_beside_first(verdict: &StreamVerdict) -> Result<usize, NoMemory> {
     let mut sum: usize = 0;
     for copy in 1..8 {
-        assert!(rt; verdict.can_take(copy));
+        if !(verdict.can_take(copy)) {
+        return Err(NoMemory);
+    }
         sum = sum.saturating_add(verdict.kept(copy));
     }
-    sum
+    Ok(sum)
 }
 
-fn take_turns(rt: &HostRuntime, verdict: &mut StreamVerdict, text: &[u8], span: &TokenSpan) -> Result<(), NoMemory> {
+fn take_turns(verdict: &mut StreamVerdict, text: &[u8], span: &TokenSpan) -> Result<(), NoMemory> {
     for copy in 0..8 {
-        feed_span(rt, verdict, copy, text, span)?;
+        feed_span(verdict, copy, text, span)?;
     }
     Ok(())
 }
 
-fn feed_span(rt: &HostRuntime, verdict: &mut StreamVerdict, copy: u8, text: &[u8], span: &TokenSpan) -> Result<(), NoMemory> {
+fn feed_span(verdict: &mut StreamVerdict, copy: u8, text: &[u8], span: &TokenSpan) -> Result<(), NoMemory> {
     let start = span.start as usize;
     let end = span.end as usize;
-    assert!(rt; start <= end && end <= text.len());
-    assert!(rt; verdict.can_take(copy));
+    if !(start <= end && end <= text.len()) {
+        return Err(NoMemory);
+    }
+    if !(verdict.can_take(copy)) {
+        return Err(NoMemory);
+    }
     verdict.feed(copy, span.kind, &text[start..end])
 }
 
@@ -191,12 +205,16 @@ fn spans_of(alloc: Global, text: &[u8]) -> Result<Spans, NoMemory>
     Ok(spans)
 }
 
-fn copies_of(rt: &HostRuntime, alloc: Global, text: &[u8]) -> Result<Copies, NoMemory> {
+fn copies_of(alloc: Global, text: &[u8]) -> Result<Copies, NoMemory> {
     let mut copies = Copies::new(alloc);
     for _ in 0..8 {
-        assert!(rt; text.len() < 2_000_000);
+        if !(text.len() < 2_000_000) {
+        return Err(NoMemory);
+    }
         let spans = spans_of(alloc, text)?;
-        assert!(rt; copies.len() < 8);
+        if !(copies.len() < 8) {
+        return Err(NoMemory);
+    }
         copies.push_copy(Bytes::from_slice(alloc, text)?, spans)?;
     }
     Ok(copies)
