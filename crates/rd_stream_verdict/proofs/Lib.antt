@@ -1,0 +1,16 @@
+pub mod Queued
+pub mod Behind
+pub mod Reached
+pub mod ByHeads
+pub mod Same
+pub mod Further
+pub mod KeptCopies
+pub mod Heard
+pub mod Steps
+pub mod Ended
+pub mod EndSteps
+pub mod Silent
+pub mod Masked
+pub mod Asked
+pub mod Answered
+pub mod KeptBytes

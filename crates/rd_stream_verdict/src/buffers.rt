@@ -1,0 +1,177 @@
+ghost use Rattle.std.specs.Prelude.{◌≡◌, ◌≤◌, ◌<◌, ◌-◌, ◌^◌, [], length, map, replicate, slice_get, slice_index_or, Some, None, false, true, IfOk, IfSome, OnOk, OnErr};
+ghost use Rattle.std.specs.List.{list_all};
+ghost use Rattle.rd_stream_verdict.specs.Said.{at_place};
+ghost use Rattle.rd_stream_verdict.specs.Kept.{waiting_bytes};
+ghost use Rattle.rd_stream_verdict.specs.Heads.{none_behind, only_behind, counted, waits, closed, passed, cleared, heads_with, heads_judged, heads_alone_fault};
+
+use crate::copy::CopyBuffer;
+use crate::heads::heads_with;
+use crate::judging::{Judged, alone_fault_of, judge_heads};
+use crate::token::TokenRef;
+use rd_base::{MaskLimits, NoMemory, Verdict};
+use std::alloc::Global;
+use std::marker::Model;
+
+/// What is kept of each copy.
+#[derive(Drop)]
+pub(crate) struct Buffers {
+    kept: Vec<CopyBuffer>,
+}
+
+impl Model for Buffers {
+    ghost use Rattle.std.specs.Prelude.{List};
+    ghost use Rattle.rd_stream_verdict.specs.Kept.{CopyKept};
+
+    ghost Value = { List CopyKept };
+
+    ghost view = { λ b. b.kept.items };
+}
+
+impl Buffers {
+    /// Of so many copies that have said nothing yet.
+    pub(crate) fn new(alloc: Global, count: u8) -> Result<Buffers, NoMemory>
+        ensures { IfOk result (λ copies. copies ≡ replicate count (record { fed = 0; waiting = []; is_whole = false })) }
+    {
+        let mut kept = Vec::new(alloc);
+        for i in 0..count {
+            if kept.push(CopyBuffer::new(alloc)).is_err() {
+                return Err(NoMemory);
+            }
+        }
+        Ok(Buffers { kept })
+    }
+
+    /// The number of tokens that the copy was fed.
+    pub(crate) fn fed(&self, copy: usize) -> u32
+        requires { copy < length self.now }
+        ensures { IfSome (slice_get self.now copy) (λ c. result ≡ c.fed) }
+    {
+        self.kept[copy].fed()
+    }
+
+    /// Whether the copy is there and may have more tokens.
+    #[cfg(test)]
+    pub(crate) fn can_take(&self, copy: usize) -> bool
+        ensures there { result ≡ true → copy < length self.now }
+        ensures open { result ≡ true → IfSome (slice_get self.now copy) (λ c. c.is_whole ≡ false) }
+        ensures fewer { result ≡ true → IfSome (slice_get self.now copy) (λ c. c.fed < 2 ^ 32 - 1) }
+    {
+        match self.kept.as_slice().get(copy) {
+            Some(kept) => !kept.is_whole() && kept.fed() < u32::MAX,
+            None => false,
+        }
+    }
+
+    /// The bytes of the copy's tokens that wait.
+    pub(crate) fn bytes(&self, copy: usize) -> usize
+        requires { copy < length self.now }
+        ensures bytes { result ≡ waiting_bytes (slice_get self.now copy) }
+        ensures most { result < 2 ^ 63 }
+    {
+        self.kept[copy].bytes()
+    }
+
+    /// Whether all copies are closed.
+    pub(crate) fn are_whole(&self) -> bool
+        ensures { result ≡ list_all (λ c. c.is_whole) self.now }
+    {
+        self.kept.iter().all(|copy| copy.is_whole())
+    }
+
+    /// Whether this copy is behind, and no other one.
+    pub(crate) fn is_only_behind(&self, copy: usize) -> bool
+        requires { copy < length self.now }
+        ensures { result ≡ only_behind copy self.now }
+    {
+        is_only_behind(self.kept.as_slice(), copy)
+    }
+
+    /// What a place comes to where one of the copies has this token, and below which so many places are masked.
+    pub(crate) fn judge_with(
+        &self,
+        copy: usize,
+        token: TokenRef,
+        most: MaskLimits,
+        place: u32,
+        masked: usize,
+    ) -> Judged
+        requires there { copy < length self.now }
+        requires three { 3 ≤ length self.now }
+        requires few { length self.now ≤ 8 }
+        ensures { result ≡ heads_judged most place masked (heads_with copy (Some token.entry) self.now) }
+    {
+        let heads = heads_with(self.kept.as_slice(), copy, Some(token));
+        judge_heads(heads.as_slice(), most, place, masked)
+    }
+
+    /// The fault at a place where one of the copies has no token and another may have one.
+    pub(crate) fn alone_fault_with(&self, copy: usize, place: u32) -> Option<Verdict>
+        requires there { copy < length self.now }
+        requires three { 3 ≤ length self.now }
+        requires few { length self.now ≤ 8 }
+        ensures { result ≡ heads_alone_fault place (heads_with copy None self.now) }
+    {
+        let heads = heads_with(self.kept.as_slice(), copy, None);
+        alone_fault_of(heads.as_slice(), place)
+    }
+
+    /// Counts a token of one copy that doesn't wait.
+    pub(crate) fn count(&mut self, copy: usize)
+        requires there { copy < length self.old }
+        requires fewer { IfSome (slice_get self.old copy) (λ c. c.fed < 2 ^ 32 - 1) }
+        ensures { self.new ≡ at_place counted copy self.old }
+    {
+        self.kept[copy].count();
+    }
+
+    /// Lets a token of one copy wait.
+    pub(crate) fn wait(&mut self, copy: usize, token: &TokenRef) -> Result<(), NoMemory>
+        requires there { copy < length self.old }
+        requires fewer { IfSome (slice_get self.old copy) (λ c. c.fed < 2 ^ 32 - 1) }
+        ensures ok { OnOk result (self.new ≡ at_place (waits token.now) copy self.old) }
+        ensures err { OnErr result (self.new ≡ self.old) }
+    {
+        self.kept[copy].wait(token)
+    }
+
+    pub(crate) fn close(&mut self, copy: usize)
+        requires { copy < length self.old }
+        ensures { self.new ≡ at_place closed copy self.old }
+    {
+        self.kept[copy].close();
+    }
+
+    /// A place was judged: each copy's first token that waits is dropped.
+    pub(crate) fn pass_all(&mut self)
+        ensures { self.new ≡ map passed self.old }
+    {
+        for copy in self.kept.iter_mut() {
+            copy.pass();
+        }
+    }
+
+    /// A fault was found: all tokens that wait are dropped.
+    pub(crate) fn clear_all(&mut self)
+        ensures { self.new ≡ map cleared self.old }
+    {
+        for copy in self.kept.iter_mut() {
+            copy.clear();
+        }
+    }
+}
+
+/// Whether this copy is behind, and no other one.
+fn is_only_behind(copies: &[CopyBuffer], copy: usize) -> bool
+    requires { copy < length copies.now }
+    ensures { result ≡ only_behind copy copies.now }
+{
+    copies[copy].is_behind()
+        && is_none_behind(&copies[copy + 1..])
+        && is_none_behind(&copies[..copy])
+}
+
+fn is_none_behind(copies: &[CopyBuffer]) -> bool
+    ensures { result ≡ none_behind copies.now }
+{
+    copies.iter().all(|copy| !copy.is_behind())
+}
