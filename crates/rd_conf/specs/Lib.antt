@@ -1,0 +1,4 @@
+pub mod Keys
+pub mod Answers
+pub mod Rows
+pub mod Lists
