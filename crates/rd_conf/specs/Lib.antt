@@ -1,4 +1,5 @@
 pub mod Keys
 pub mod Answers
 pub mod Rows
+pub mod Passes
 pub mod Lists

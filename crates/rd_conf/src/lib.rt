@@ -4,6 +4,7 @@
 mod key;
 mod rows;
 mod settings;
+mod texts;
 
 pub use key::Key;
 pub use settings::{DialectName, Ports, Settings, SettingsFail};
