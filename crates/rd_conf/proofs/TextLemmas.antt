@@ -10,7 +10,7 @@ use Rattle.toml.proofs.Views.{items_view-drop}
 use Rattle.rd_conf.specs.declared.key.Key.{Key}
 use Rattle.rd_conf.specs.declared.settings.SettingsFail.TheVariants.{WrongKind}
 use Rattle.rd_conf.specs.Rows.{is_address}
-use Rattle.rd_conf.specs.Lists.{items_list, are_texts, texts_of, text_or_none, texts_in, is_name, are_names, is_no_name_of, are_free_names, are_addresses}
+use Rattle.rd_conf.specs.Lists.{items_list, are_texts, texts_of, text_or_none, texts_in, is_name, are_names, is_no_name_of, are_free_names, are_addresses, are_addresses_or_none}
 use Rattle.rd_conf.specs.Passes.{passes}
 
 -- a test of every value is one of every item
@@ -85,6 +85,17 @@ pub other_count : (copies : ℕ) (vs : List Value) → are_texts (items_view vs)
     → nat_eq (length vs) copies ≡ are_addresses copies (texts_of (items_view vs))
 unfolding are_addresses
 other_count copies vs h other = rw (length_texts vs h) (grind (arith, nat_tests))
+
+-- no addresses, or one for each copy
+pub some_addresses : (b : Bool) (copies : ℕ) (vs : List Value) → are_texts (items_view vs) ≡ true → nat_eq (length vs) 0 ≡ false
+    → b ≡ are_addresses copies (texts_of (items_view vs)) → b ≡ are_addresses_or_none copies (texts_of (items_view vs))
+unfolding are_addresses_or_none
+some_addresses b copies vs h some same = rw (length_texts vs h, some) same
+
+pub no_addresses : (copies : ℕ) (vs : List Value) → are_texts (items_view vs) ≡ true → nat_eq (length vs) 0 ≡ true
+    → true ≡ are_addresses_or_none copies (texts_of (items_view vs))
+unfolding are_addresses_or_none
+no_addresses copies vs h none = rw (length_texts vs h, none) refl
 
 -- a value that is an array
 pub an_array : (key : Key) (d : Data) (items : Items) (b : Bool) → Some items ≡ as_array d → b ≡ are_texts items

@@ -58,7 +58,7 @@ port_keys = PortsListen ∷ PortsInstances ∷ PortsCallers ∷ PortsBackend ∷
 
 -- the word is one of these keys
 abbrev pub is_one_of : List Key → List ℕ → Bool
-is_one_of keys word = list_any (λ key. bytes_eq word (key_word key)) keys
+is_one_of keys word = list_any (λ key. bytes_eq (key_word key) word) keys
 
 -- the top table has this key, in version 2 or in version 1
 unfoldable pub is_top_key : Bool → List ℕ → Bool

@@ -3,3 +3,5 @@ pub mod Answers
 pub mod Rows
 pub mod Passes
 pub mod Lists
+pub mod Unknown
+pub mod Settings

@@ -2,9 +2,13 @@
 #![tactic(auto)]
 
 mod key;
+mod lists;
+mod read;
 mod rows;
 mod settings;
 mod texts;
+mod unknown;
 
 pub use key::Key;
+pub use read::read_settings;
 pub use settings::{DialectName, Ports, Settings, SettingsFail};
