@@ -1,5 +1,5 @@
 -- The keys of a table, as the definitions see them.
-use Rattle.std.proofs.Common.{◌≡◌, ℕ, Bool, true, false, not, cond, List, [], ◌∷◌, Option, Some, None, Ok, Err, option_map, String, Global, string_bytes, refl, sym, ap, ◌∙◌}
+use Rattle.std.proofs.Common.{◌≡◌, ℕ, Bool, true, false, not, cond, List, [], ◌∷◌, Option, Some, None, Ok, Err, option_map, String, Global, string_bytes, refl, ap, ◌∙◌}
 use Rattle.std.specs.List.{find}
 use Rattle.std.specs.Map.{keys_of}
 use Rattle.std.specs.Borrow.{Bor}
@@ -66,15 +66,15 @@ pub ports_other : (o : Option Data) (d : Data) → Some d ≡ o → None ≡ as_
 ports_other o d there h = no_table d h ∙ ap unknown_port_key there
 
 -- which fault is the first, or none
-pub top_unknown : (members : Members) (key made : List ℕ) → Some key ≡ unknown_top_key members → made ≡ key → known_keys members ≡ Err (Unknown made)
+pub top_unknown : (all : Members) (key made : List ℕ) → Some key ≡ unknown_top_key all → made ≡ key → known_keys all ≡ Err (Unknown made)
 unfolding known_keys
-top_unknown members key made top same = rw (← top, same) refl
+top_unknown all key made top same = rw (← top, same) refl
 
-pub port_unknown : (members : Members) (key made : List ℕ) → None ≡ unknown_top_key members → Some key ≡ unknown_port_key (value_at Ports members)
-    → made ≡ port_name key → known_keys members ≡ Err (Unknown made)
+pub port_unknown : (all : Members) (key made : List ℕ) → None ≡ unknown_top_key all → Some key ≡ unknown_port_key (value_at Ports all)
+    → made ≡ port_name key → known_keys all ≡ Err (Unknown made)
 unfolding known_keys
-port_unknown members key made top port same = rw (← top, ← port, same) refl
+port_unknown all key made top port same = rw (← top, ← port, same) refl
 
-pub all_known : (members : Members) → None ≡ unknown_top_key members → None ≡ unknown_port_key (value_at Ports members) → known_keys members ≡ Ok tt
+pub all_known : (all : Members) → None ≡ unknown_top_key all → None ≡ unknown_port_key (value_at Ports all) → known_keys all ≡ Ok tt
 unfolding known_keys
-all_known members top port = rw (← top, ← port) refl
+all_known all top port = rw (← top, ← port) refl

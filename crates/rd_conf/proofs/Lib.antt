@@ -1,3 +1,5 @@
 pub mod TextLemmas
+pub mod FirstVersion
+pub mod Documents
 pub mod KeyLemmas
 pub mod NameLemmas

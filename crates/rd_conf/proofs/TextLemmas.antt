@@ -1,8 +1,8 @@
 -- The texts of an array's values, as the definitions see them.
-use Rattle.std.proofs.Common.{◌≡◌, ◌≢◌, ◌≤◌, ◌<◌, ℕ, ◌+◌, Bool, true, false, ◌&&◌, List, [], ◌∷◌, ◌++◌, Option, Some, None, is_some, Ok, Err, if◌then◌else◌, nat_le, nat_eq, length, drop, map, get_or, refl, sym, ap, ◌∙◌, append_assoc, append-nil, le-leb, eq-eqb, arith}
+use Rattle.std.proofs.Common.{◌≡◌, ◌≢◌, ◌≤◌, ◌<◌, ℕ, ◌+◌, Bool, true, false, ◌&&◌, List, [], ◌∷◌, ◌++◌, Some, is_some, Ok, Err, if◌then◌else◌, nat_le, nat_eq, length, drop, get_or, refl, sym, ap, ◌∙◌, le-leb, eq-eqb, arith}
 use Rattle.std.proofs.lemmas.List.{drop_all}
 use Rattle.std.proofs.lemmas.Bool.Decides.{nat_tests}
-use Rattle.std.specs.List.{list_all, flat_map}
+use Rattle.std.specs.List.{list_all}
 use Rattle.toml.specs.declared.value.Value.{Value}
 use Rattle.toml.specs.Data.{Data, string, integer, float, boolean, datetime, array, table, Items, as_str, as_array}
 use Rattle.toml.specs.View.{view, items_view}
@@ -55,7 +55,7 @@ unfolding texts_of are_texts
 length_texts [] h = refl
 length_texts (v ∷ vs) h =
     let first : length (text_or_none (view v) ++ texts_of (items_view vs)) ≡ length vs + 1 =
-        length_first (view v) (texts_of (items_view vs)) (length vs) (are_texts (items_view vs)) h (length_texts vs) in
+    length_first (view v) (texts_of (items_view vs)) (length vs) (are_texts (items_view vs)) h (length_texts vs) in
     omega arith
 
 -- names, where every value is a text

@@ -1,5 +1,5 @@
 -- The keys of a settings file.
-use Rattle.std.specs.Prelude.{ℕ, ◌||◌, ◌&&◌, Bool, true, false, if◌then◌else◌, List, [], ◌∷◌, ◌++◌, codes, bytes_eq}
+use Rattle.std.specs.Prelude.{ℕ, ◌||◌, ◌&&◌, Bool, List, [], ◌∷◌, ◌++◌, codes, bytes_eq}
 use Rattle.std.specs.List.{list_any}
 use Rattle.rd_conf.specs.declared.key.Key.{Key}
 use Rattle.rd_conf.specs.declared.key.Key.TheVariants.{Version, Copies, Incoming, Outgoing, UnitMax, ExchangesMax, IdleMs, RequestMs, GatherMs, ReplyMs, HttpPass, FirmNames, FreeNames, MaskedMax, MaskedBytes, Ports, PortsListen, PortsInstances, PortsCallers, PortsBackend, PortsOperator, PortsRecords}

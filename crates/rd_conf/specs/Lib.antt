@@ -5,3 +5,4 @@ pub mod Passes
 pub mod Lists
 pub mod Unknown
 pub mod Settings
+pub mod Defaults

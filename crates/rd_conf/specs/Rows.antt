@@ -1,8 +1,7 @@
 -- What one key's value means: the setting, or the key's fault.
-use Rattle.std.specs.Prelude.{ℕ, pos, negsuc, ◌||◌, ◌&&◌, ◌==◌, not, nat_le, Bool, if◌then◌else◌, List, [], ◌∷◌, length, codes, bytes_eq, Option, Some, None, Result, Ok, Err}
-use Rattle.toml.specs.Data.{Data, string, integer, float, boolean, datetime, array, table, Members, get_member}
+use Rattle.std.specs.Prelude.{ℕ, pos, negsuc, ◌&&◌, nat_le, Bool, if◌then◌else◌, List, [], length, codes, bytes_eq, Option, Some, None, Result, Ok, Err}
+use Rattle.toml.specs.Data.{Data, string, integer, Members, get_member}
 use Rattle.rd_conf.specs.declared.key.Key.{Key}
-use Rattle.rd_conf.specs.declared.key.Key.TheVariants.{Version}
 use Rattle.rd_conf.specs.declared.settings.DialectName.{DialectName}
 use Rattle.rd_conf.specs.declared.settings.DialectName.TheVariants.{Line}
 use Rattle.rd_conf.specs.declared.settings.SettingsFail.{SettingsFail}

@@ -8,7 +8,6 @@ use Rattle.rd_base.specs.declared.values.MaskLimits.{MaskLimits}
 use Rattle.rd_base.specs.declared.names.NameRules.{NameRules}
 use Rattle.rd_conf.specs.declared.key.Key.{Key}
 use Rattle.rd_conf.specs.declared.key.Key.TheVariants.{Version, Copies, Incoming, Outgoing, UnitMax, ExchangesMax, IdleMs, RequestMs, GatherMs, ReplyMs, HttpPass, FirmNames, FreeNames, MaskedMax, MaskedBytes, Ports as PortsKey, PortsListen, PortsInstances, PortsCallers, PortsBackend, PortsOperator, PortsRecords}
-use Rattle.rd_conf.specs.declared.settings.DialectName.TheVariants.{Line}
 use Rattle.rd_conf.specs.declared.settings.Ports.{Ports}
 use Rattle.rd_conf.specs.declared.settings.Settings.{Settings}
 use Rattle.rd_conf.specs.declared.settings.SettingsFail.{SettingsFail}

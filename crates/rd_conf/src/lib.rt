@@ -1,6 +1,7 @@
 // Settings: what a settings file says, or its first fault.
 #![tactic(auto)]
 
+mod defaults;
 mod key;
 mod lists;
 mod read;
@@ -9,6 +10,7 @@ mod settings;
 mod texts;
 mod unknown;
 
+pub use defaults::default_settings;
 pub use key::Key;
 pub use read::read_settings;
 pub use settings::{DialectName, Ports, Settings, SettingsFail};

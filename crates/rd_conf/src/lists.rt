@@ -33,11 +33,7 @@ fn names_under(alloc: Global, value: &Value, key: Key) -> Result<Names, Settings
 }
 
 /// The names of values that give no token. None of them is a firm name.
-pub fn free_names_or_none(
-    alloc: Global,
-    table: &Table,
-    firm: &Names,
-) -> Result<Names, SettingsFail>
+pub fn free_names_or_none(alloc: Global, table: &Table, firm: &Names) -> Result<Names, SettingsFail>
     ensures { IsAnswer result (texts_if Key.FreeNames (are_free_names firm.now) (value_at Key.FreeNames (table_view table.now))) }
 {
     match value_at(table, Key::FreeNames) {

@@ -5,22 +5,18 @@ ghost use Rattle.rd_conf.specs.Answers.{IsAnswer};
 ghost use Rattle.rd_conf.specs.Rows.{value_at};
 ghost use Rattle.rd_conf.specs.Settings.{limits_of, mask_limits_of, rules_of, ports_in, ports_of, settings_in, settings_of, table_of, wait_or, no_ports};
 
+use crate::defaults::{most_masked, no_ports};
 use crate::key::Key;
 use crate::lists::{callers_or_none, free_names_or_none, instances_or_none, names_or_none};
 use crate::rows::{address_or_none, dialect_or_line, integer_or, required_integer, value_at};
 use crate::settings::{Ports, Settings, SettingsFail};
 use crate::unknown::refuse_unknown;
-use rd_base::{Bytes, Limits, MaskLimits, NameRules, Words};
+use rd_base::{Limits, MaskLimits, NameRules};
 use std::alloc::Global;
 use toml::{Table, Value};
 
-/// The greatest limits of masks, which are the defaults.
-const MOST_MASKED: MaskLimits = MaskLimits {
-    places: 64,
-    bytes: 128,
-};
-
 /// A time in milliseconds under a key, at most a day.
+#[tactic(auto, unfolding(crate::specs::Settings::wait_or))]
 fn wait_or(table: &Table, key: Key, default: u64) -> Result<u64, SettingsFail>
     requires least { 1 ≤ default }
     requires most { default ≤ 86400000 }
@@ -32,6 +28,7 @@ fn wait_or(table: &Table, key: Key, default: u64) -> Result<u64, SettingsFail>
 }
 
 /// The limits of a session, but for those of masks, which are the greatest.
+#[tactic(auto, unfolding(crate::specs::Settings::limits_of))]
 fn read_limits(table: &Table, copies: u8) -> Result<Limits, SettingsFail>
     requires least { 3 ≤ copies }
     requires most { copies ≤ 8 }
@@ -52,11 +49,12 @@ fn read_limits(table: &Table, copies: u8) -> Result<Limits, SettingsFail>
         request_ms,
         gather_ms,
         reply_ms,
-        mask: MOST_MASKED,
+        mask: most_masked(),
     })
 }
 
 /// The limits of masks.
+#[tactic(auto, unfolding(crate::specs::Settings::mask_limits_of))]
 fn read_mask_limits(table: &Table) -> Result<MaskLimits, SettingsFail>
     ensures rows { result ≡ mask_limits_of (table_view table.now) }
     ensures ranges { IfOk result AreMaskLimits }
@@ -70,6 +68,7 @@ fn read_mask_limits(table: &Table) -> Result<MaskLimits, SettingsFail>
 }
 
 /// The names of values that are passed over, never masked, or always noise.
+#[tactic(auto, unfolding(crate::specs::Settings::rules_of))]
 fn read_rules(alloc: Global, table: &Table) -> Result<NameRules, SettingsFail>
     ensures { IsAnswer result (rules_of (table_view table.now)) }
 {
@@ -80,6 +79,7 @@ fn read_rules(alloc: Global, table: &Table) -> Result<NameRules, SettingsFail>
 }
 
 /// The ports of so many copies.
+#[tactic(auto, unfolding(crate::specs::Settings::ports_of))]
 fn read_ports(alloc: Global, table: &Table, copies: u8) -> Result<Ports, SettingsFail>
     ensures { IsAnswer result (ports_of copies (value_at Key.Ports (table_view table.now))) }
 {
@@ -89,19 +89,7 @@ fn read_ports(alloc: Global, table: &Table, copies: u8) -> Result<Ports, Setting
     }
 }
 
-fn no_ports(alloc: Global) -> Ports
-    ensures { result ≡ no_ports }
-{
-    Ports {
-        listen: Bytes::new(alloc),
-        instances: Words::new(alloc),
-        callers: Words::new(alloc),
-        backend: Bytes::new(alloc),
-        operator: Bytes::new(alloc),
-        records: Bytes::new(alloc),
-    }
-}
-
+#[tactic(auto, unfolding(crate::specs::Settings::ports_of))]
 fn ports_under(alloc: Global, value: &Value, copies: u8) -> Result<Ports, SettingsFail>
     ensures { IsAnswer result (ports_of copies (Some (view value.now))) }
 {
@@ -111,6 +99,7 @@ fn ports_under(alloc: Global, value: &Value, copies: u8) -> Result<Ports, Settin
     }
 }
 
+#[tactic(auto, unfolding(crate::specs::Settings::ports_in))]
 fn ports_in(alloc: Global, ports: &Table, copies: u8) -> Result<Ports, SettingsFail>
     ensures { IsAnswer result (ports_in copies (table_view ports.now)) }
 {
@@ -131,6 +120,7 @@ fn ports_in(alloc: Global, ports: &Table, copies: u8) -> Result<Ports, SettingsF
 }
 
 /// The settings that a table says, or its first fault.
+#[tactic(auto, unfolding(crate::specs::Settings::settings_in))]
 fn settings_in(alloc: Global, table: &Table) -> Result<Settings, SettingsFail>
     ensures settings { IsAnswer result (settings_in (table_view table.now)) }
     ensures limits { IfOk result (λ settings. AreLimits settings.limits) }
@@ -161,7 +151,11 @@ pub fn read_settings(alloc: Global, text: &[u8]) -> Result<Settings, SettingsFai
 {
     match toml::table_from_slice(alloc, text) {
         Ok(table) => settings_in(alloc, &table),
-        Err(error) if error.is_memory() => Err(SettingsFail::NoMemory),
-        Err(_) => Err(SettingsFail::NotToml),
+        Err(error) => {
+            if error.is_memory() {
+                return Err(SettingsFail::NoMemory);
+            }
+            Err(SettingsFail::NotToml)
+        }
     }
 }

@@ -37,12 +37,7 @@ pub fn integer_or(
 }
 
 /// The whole number under a key that has to be there, from `least` to `most`.
-pub fn required_integer(
-    table: &Table,
-    key: Key,
-    least: u64,
-    most: u64,
-) -> Result<u64, SettingsFail>
+pub fn required_integer(table: &Table, key: Key, least: u64, most: u64) -> Result<u64, SettingsFail>
     ensures { result ≡ required_integer key least most (value_at key (table_view table.now)) }
 {
     match value_at(table, key) {

@@ -1,4 +1,4 @@
-use Rattle.std.proofs.Common.{◌≡◌, ◌∙◌, sym}
+use Rattle.std.proofs.Common.{◌∙◌, sym}
 use Rattle.rd_conf.proofs.TextLemmas.{some_addresses, no_addresses}
 use Rattle.rd_conf.proofs.lists.are_addresses_or_none.Goals as goal
 

@@ -11,4 +11,4 @@ returns c =
     let texts = texts_of (items_view c.in_ok-items.items.now) in
     let right : are_free_names firm texts ≡ true = sym c.are_free_names.ensures ∙ c.if-not-are_free_names.false in
     taken FreeNames (are_free_names firm) (view c.args.value.now) texts c.in_ok-names_of.field-0 c.in_ok-items.ensures.row right
-      (c.in_ok-names_of.ensures ∙ lower_names texts (are_names_when_free firm texts right))
+    (c.in_ok-names_of.ensures ∙ lower_names texts (are_names_when_free firm texts right))

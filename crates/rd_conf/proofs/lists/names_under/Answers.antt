@@ -9,4 +9,4 @@ returns c =
     let texts = texts_of (items_view c.in_ok-items.items.now) in
     let right : are_names texts ≡ true = sym c.are_names.ensures ∙ c.if-not-are_names.false in
     taken c.args.key are_names (view c.args.value.now) texts c.in_ok-names_of.field-0 c.in_ok-items.ensures.row right
-      (c.in_ok-names_of.ensures ∙ lower_names texts right)
+    (c.in_ok-names_of.ensures ∙ lower_names texts right)

@@ -1,6 +1,5 @@
-use Rattle.std.proofs.Common.{◌≡◌, ◌++◌, ◌∙◌, sym, ap, map, append_assoc, append-nil}
+use Rattle.std.proofs.Common.{◌∙◌, sym, append_assoc, append-nil}
 use Rattle.std.proofs.lemmas.List.{map-append}
-use Rattle.std.specs.Char.{to_ascii_lowercase}
 use Rattle.rd_conf.proofs.TextLemmas.{texts_from, texts_over}
 use Rattle.rd_conf.proofs.texts.names_of.Goals as goal
 

@@ -9,7 +9,7 @@ pub returns-then-not-are_texts-clause-row : goal.returns-then-not-are_texts-clau
 returns-then-not-are_texts-clause-row c =
     let items = c.as_slice-items.result.now in
     let seen : Some (items_view items) ≡ as_array (view c.args.value.now) =
-        rw c.as_slice-items.ensures.value (sym (ap (option_map (λ v. array_view v.now)) c.in-Some.is) ∙ c.as_array.ensures) in
+    rw c.as_slice-items.ensures.value (sym (ap (option_map (λ v. array_view v.now)) c.in-Some.is) ∙ c.as_array.ensures) in
     let same : false ≡ are_texts (items_view items) = sym c.if-not-are_texts.true ∙ (c.are_texts.ensures ∙ values_are_texts items) in
     an_array c.args.key (view c.args.value.now) (items_view items) false seen same
 
@@ -20,6 +20,6 @@ pub returns-clause-row : goal.returns-clause-row
 returns-clause-row c =
     let items = c.as_slice-items.result.now in
     let seen : Some (items_view items) ≡ as_array (view c.args.value.now) =
-        rw c.as_slice-items.ensures.value (sym (ap (option_map (λ v. array_view v.now)) c.in-Some.is) ∙ c.as_array.ensures) in
+    rw c.as_slice-items.ensures.value (sym (ap (option_map (λ v. array_view v.now)) c.in-Some.is) ∙ c.as_array.ensures) in
     let same : true ≡ are_texts (items_view items) = sym c.if-not-are_texts.false ∙ (c.are_texts.ensures ∙ values_are_texts items) in
     an_array c.args.key (view c.args.value.now) (items_view items) true seen same

@@ -1,4 +1,4 @@
-use Rattle.std.proofs.Common.{◌≡◌, ◌++◌, ◌∙◌, sym, ap, append_assoc, append-nil}
+use Rattle.std.proofs.Common.{◌∙◌, sym, append_assoc, append-nil}
 use Rattle.rd_conf.proofs.TextLemmas.{texts_from, texts_over}
 use Rattle.rd_conf.proofs.texts.words_of.Goals as goal
 

@@ -17,7 +17,7 @@ returns-in-Some-unknown_port_key c =
     let members = table_view c.args.table.now in
     let top : None ≡ unknown_top_key members = sym (ap (option_map (λ key. key.now)) c.in_default.is) ∙ c.unknown_top_key.ensures in
     let port : Some c.in-Some-unknown_port_key.key.now ≡ unknown_port_key (value_at Ports members) =
-        sym (ap (option_map (λ key. key.now)) c.in-Some-unknown_port_key.is) ∙ c.unknown_port_key.ensures in
+    sym (ap (option_map (λ key. key.now)) c.in-Some-unknown_port_key.is) ∙ c.unknown_port_key.ensures in
     λ h. port_unknown members c.in-Some-unknown_port_key.key.now c.in_ok-port_name.field-0 top port c.in_ok-port_name.ensures
 
 pub returns : goal.returns
@@ -25,5 +25,5 @@ returns c =
     let members = table_view c.args.table.now in
     let top : None ≡ unknown_top_key members = sym (ap (option_map (λ key. key.now)) c.in_default.is) ∙ c.unknown_top_key.ensures in
     let port : None ≡ unknown_port_key (value_at Ports members) =
-        sym (ap (option_map (λ key. key.now)) c.in_default-unknown_port_key.is) ∙ c.unknown_port_key.ensures in
+    sym (ap (option_map (λ key. key.now)) c.in_default-unknown_port_key.is) ∙ c.unknown_port_key.ensures in
     all_known members top port

@@ -1,6 +1,6 @@
-use Rattle.std.proofs.Common.{◌≡◌, ◌∙◌, sym, ap, not, Some, option_map, string_bytes}
+use Rattle.std.proofs.Common.{not}
 use Rattle.rd_conf.specs.Keys.{is_top_key}
-use Rattle.rd_conf.specs.Unknown.{is_second, unknown_top_key}
+use Rattle.rd_conf.specs.Unknown.{unknown_top_key}
 use Rattle.rd_conf.proofs.KeyLemmas.{first_key}
 use Rattle.rd_conf.proofs.unknown.unknown_top_key.Goals as goal
 
