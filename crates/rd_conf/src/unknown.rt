@@ -1,6 +1,8 @@
 ghost use Rattle.std.specs.Prelude.{◌≡◌, ◌||◌, ◌&&◌, ◌++◌, not, option_map, bytes_eq, string_bytes, IfOk};
 ghost use Rattle.std.specs.List.{find};
+ghost use Rattle.std.specs.List.Sorted.{IsStrictlySortedBy};
 ghost use Rattle.std.specs.Map.{keys_of};
+ghost use Rattle.std.specs.String.{string_cmp};
 ghost use Rattle.toml.specs.View.{view, table_view};
 ghost use Rattle.rd_conf.specs.Answers.{IsAnswer};
 ghost use Rattle.rd_conf.specs.Keys.{key_word, is_one_of, is_top_key, is_port_key, port_name};
@@ -47,7 +49,7 @@ const PORT_KEYS: [Key; 6] = [
     Key::PortsRecords,
 ];
 
-/// Refuses the first key of the top table that isn't known, and then that of the ports.
+/// Refuses the least key of the top table that isn't known, and then that of the ports.
 pub fn refuse_unknown(alloc: Global, table: &Table) -> Result<(), SettingsFail>
     ensures { IsAnswer result (known_keys (table_view table.now)) }
 {
@@ -80,7 +82,8 @@ fn unknown_top_key(table: &Table) -> Option<&str>
 }
 
 fn first_not_in_top(table: &Table, second: bool) -> Option<&String>
-    ensures { option_map (λ key. key.now) result ≡ find (λ key. not (is_top_key second (string_bytes key))) (keys_of table.now.entries) }
+    ensures first { option_map (λ key. key.now) result ≡ find (λ key. not (is_top_key second (string_bytes key))) (keys_of table.now.entries) }
+    ensures ordered { IsStrictlySortedBy string_cmp (keys_of table.now.entries) }
 {
     table.keys().find(|key| !is_top_key(second, key.as_str()))
 }
@@ -96,7 +99,8 @@ fn unknown_port_key(table: &Table) -> Option<&str>
 }
 
 fn first_not_in_ports(ports: &Table) -> Option<&String>
-    ensures { option_map (λ key. key.now) result ≡ find (λ key. not (is_port_key (string_bytes key))) (keys_of ports.now.entries) }
+    ensures first { option_map (λ key. key.now) result ≡ find (λ key. not (is_port_key (string_bytes key))) (keys_of ports.now.entries) }
+    ensures ordered { IsStrictlySortedBy string_cmp (keys_of ports.now.entries) }
 {
     ports.keys().find(|key| !is_port_key(key.as_str()))
 }
