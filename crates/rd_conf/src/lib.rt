@@ -14,3 +14,10 @@ pub use defaults::default_settings;
 pub use key::Key;
 pub use read::read_settings;
 pub use settings::{DialectName, Ports, Settings, SettingsFail};
+
+#[cfg(test)]
+mod list_tests;
+#[cfg(test)]
+mod tests;
+#[cfg(test)]
+mod value_tests;
