@@ -1,4 +1,5 @@
 pub mod TextLemmas
+pub mod PortLemmas
 pub mod FirstVersion
 pub mod Documents
 pub mod KeyLemmas

@@ -6,3 +6,4 @@ pub mod Lists
 pub mod Unknown
 pub mod Settings
 pub mod Defaults
+pub mod Ports

@@ -1,4 +1,5 @@
-ghost use Rattle.std.specs.Prelude.{◌≡◌, Ok, codes};
+ghost use Rattle.std.specs.Prelude.{◌≡◌, Ok, IfOk, codes};
+ghost use Rattle.rd_base.specs.Limits.{AreLimits};
 ghost use Rattle.rd_conf.specs.Defaults.{default_settings, default_limits, no_names};
 ghost use Rattle.rd_conf.specs.Settings.{settings_of, no_ports, most_masked};
 
@@ -9,6 +10,7 @@ use std::alloc::Global;
 /// The settings of a file that says `version = 1` and nothing else. They take no memory.
 pub fn default_settings(alloc: Global) -> Result<Settings, NoMemory>
     ensures values { result ≡ Ok default_settings }
+    ensures limits { IfOk result (λ settings. AreLimits settings.limits) }
     ensures version_1 { settings_of (codes "version = 1\n") ≡ Ok default_settings }
 {
     Ok(Settings {

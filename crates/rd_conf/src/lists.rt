@@ -1,4 +1,5 @@
-ghost use Rattle.std.specs.Prelude.{◌≡◌, Some, true};
+ghost use Rattle.std.specs.Prelude.{◌≡◌, Some, IfOk, true};
+ghost use Rattle.rd_conf.specs.Ports.{is_none_or_each};
 ghost use Rattle.toml.specs.View.{view, items_view, table_view};
 ghost use Rattle.rd_conf.specs.Answers.{IsAnswer};
 ghost use Rattle.rd_conf.specs.Rows.{value_at};
@@ -54,7 +55,8 @@ fn free_names_under(alloc: Global, value: &Value, firm: &Names) -> Result<Names,
 
 /// Where the instances are, one for each copy; none where the key is absent.
 pub fn instances_or_none(alloc: Global, table: &Table, copies: u8) -> Result<Words, SettingsFail>
-    ensures { IsAnswer result (texts_if Key.PortsInstances (are_addresses copies) (value_at Key.PortsInstances (table_view table.now))) }
+    ensures row { IsAnswer result (texts_if Key.PortsInstances (are_addresses copies) (value_at Key.PortsInstances (table_view table.now))) }
+    ensures count { IfOk result (λ words. is_none_or_each copies words ≡ true) }
 {
     match value_at(table, Key::PortsInstances) {
         None => Ok(Words::new(alloc)),
@@ -63,7 +65,8 @@ pub fn instances_or_none(alloc: Global, table: &Table, copies: u8) -> Result<Wor
 }
 
 fn instances_under(alloc: Global, value: &Value, copies: u8) -> Result<Words, SettingsFail>
-    ensures { IsAnswer result (texts_if Key.PortsInstances (are_addresses copies) (Some (view value.now))) }
+    ensures row { IsAnswer result (texts_if Key.PortsInstances (are_addresses copies) (Some (view value.now))) }
+    ensures count { IfOk result (λ words. is_none_or_each copies words ≡ true) }
 {
     let items = texts_in(value, Key::PortsInstances)?;
     if !are_addresses(copies, items) {
@@ -74,7 +77,8 @@ fn instances_under(alloc: Global, value: &Value, copies: u8) -> Result<Words, Se
 
 /// Where the callers are listened for, one for each copy, or none.
 pub fn callers_or_none(alloc: Global, table: &Table, copies: u8) -> Result<Words, SettingsFail>
-    ensures { IsAnswer result (texts_if Key.PortsCallers (are_addresses_or_none copies) (value_at Key.PortsCallers (table_view table.now))) }
+    ensures row { IsAnswer result (texts_if Key.PortsCallers (are_addresses_or_none copies) (value_at Key.PortsCallers (table_view table.now))) }
+    ensures count { IfOk result (λ words. is_none_or_each copies words ≡ true) }
 {
     match value_at(table, Key::PortsCallers) {
         None => Ok(Words::new(alloc)),
@@ -83,7 +87,8 @@ pub fn callers_or_none(alloc: Global, table: &Table, copies: u8) -> Result<Words
 }
 
 fn callers_under(alloc: Global, value: &Value, copies: u8) -> Result<Words, SettingsFail>
-    ensures { IsAnswer result (texts_if Key.PortsCallers (are_addresses_or_none copies) (Some (view value.now))) }
+    ensures row { IsAnswer result (texts_if Key.PortsCallers (are_addresses_or_none copies) (Some (view value.now))) }
+    ensures count { IfOk result (λ words. is_none_or_each copies words ≡ true) }
 {
     let items = texts_in(value, Key::PortsCallers)?;
     if !are_addresses_or_none(copies, items) {

@@ -2,6 +2,7 @@ ghost use Rattle.std.specs.Prelude.{◌≡◌, ◌≢◌, ◌≤◌, Some, Ok, E
 ghost use Rattle.toml.specs.View.{view, table_view};
 ghost use Rattle.rd_base.specs.Limits.{AreLimits, AreMaskLimits};
 ghost use Rattle.rd_conf.specs.Answers.{IsAnswer};
+ghost use Rattle.rd_conf.specs.Ports.{ArePorts};
 ghost use Rattle.rd_conf.specs.Rows.{value_at};
 ghost use Rattle.rd_conf.specs.Settings.{limits_of, mask_limits_of, rules_of, ports_in, ports_of, settings_in, settings_of, table_of, wait_or, no_ports};
 
@@ -33,6 +34,7 @@ fn read_limits(table: &Table, copies: u8) -> Result<Limits, SettingsFail>
     requires least { 3 ≤ copies }
     requires most { copies ≤ 8 }
     ensures rows { result ≡ limits_of copies (table_view table.now) }
+    ensures copies { IfOk result (λ limits. limits.copies ≡ copies) }
     ensures ranges { IfOk result AreLimits }
 {
     let unit_max = integer_or(table, Key::UnitMax, 1_024, 8_388_608, 1_048_576)?;
@@ -81,7 +83,8 @@ fn read_rules(alloc: Global, table: &Table) -> Result<NameRules, SettingsFail>
 /// The ports of so many copies.
 #[tactic(auto, unfolding(crate::specs::Settings::ports_of))]
 fn read_ports(alloc: Global, table: &Table, copies: u8) -> Result<Ports, SettingsFail>
-    ensures { IsAnswer result (ports_of copies (value_at Key.Ports (table_view table.now))) }
+    ensures rows { IsAnswer result (ports_of copies (value_at Key.Ports (table_view table.now))) }
+    ensures counts { IfOk result (ArePorts copies) }
 {
     match value_at(table, Key::Ports) {
         None => Ok(no_ports(alloc)),
@@ -91,7 +94,8 @@ fn read_ports(alloc: Global, table: &Table, copies: u8) -> Result<Ports, Setting
 
 #[tactic(auto, unfolding(crate::specs::Settings::ports_of))]
 fn ports_under(alloc: Global, value: &Value, copies: u8) -> Result<Ports, SettingsFail>
-    ensures { IsAnswer result (ports_of copies (Some (view value.now))) }
+    ensures rows { IsAnswer result (ports_of copies (Some (view value.now))) }
+    ensures counts { IfOk result (ArePorts copies) }
 {
     match value.as_table() {
         Some(ports) => ports_in(alloc, ports, copies),
@@ -101,7 +105,8 @@ fn ports_under(alloc: Global, value: &Value, copies: u8) -> Result<Ports, Settin
 
 #[tactic(auto, unfolding(crate::specs::Settings::ports_in))]
 fn ports_in(alloc: Global, ports: &Table, copies: u8) -> Result<Ports, SettingsFail>
-    ensures { IsAnswer result (ports_in copies (table_view ports.now)) }
+    ensures rows { IsAnswer result (ports_in copies (table_view ports.now)) }
+    ensures counts { IfOk result (ArePorts copies) }
 {
     let listen = address_or_none(alloc, ports, Key::PortsListen)?;
     let instances = instances_or_none(alloc, ports, copies)?;
@@ -124,6 +129,7 @@ fn ports_in(alloc: Global, ports: &Table, copies: u8) -> Result<Ports, SettingsF
 fn settings_in(alloc: Global, table: &Table) -> Result<Settings, SettingsFail>
     ensures settings { IsAnswer result (settings_in (table_view table.now)) }
     ensures limits { IfOk result (λ settings. AreLimits settings.limits) }
+    ensures ports { IfOk result (λ settings. ArePorts settings.limits.copies settings.ports) }
 {
     refuse_unknown(alloc, table)?;
     required_integer(table, Key::Version, 1, 2)?;
@@ -143,11 +149,22 @@ fn settings_in(alloc: Global, table: &Table) -> Result<Settings, SettingsFail>
     })
 }
 
-/// The settings that a text says, or its first fault.
+/// The settings that a settings file says, or its first fault. A file has at most 65,536 bytes; this call reads texts of
+/// any length.
+///
+/// The text is a TOML 1.1 document in UTF-8, as a table without types. Which text is a document, and what its table is,
+/// is what the library `toml` states of its reader: `parse_document`, a function of the text. So a key that is defined
+/// twice, an integer beyond 64 bits and arrays or inline tables that nest more than 80 deep are no document.
+///
+/// The faults in order: `NotToml`; `Unknown` with the least unknown key of the top table in the order of its bytes, then
+/// of the table `ports`; then key by key as `Key` lists them, `Missing`, `WrongKind` or `OutOfRange`. The keys of names
+/// and masks are known where `version` is the integer 2. `NoMemory` stands for no fault: memory ran out before an answer
+/// was found.
 pub fn read_settings(alloc: Global, text: &[u8]) -> Result<Settings, SettingsFail>
     ensures settings { IfOk result (λ settings. settings_of text.now ≡ Ok settings) }
     ensures fault { IfErr result (λ fault. fault ≢ SettingsFail.NoMemory → settings_of text.now ≡ Err fault) }
     ensures limits { IfOk result (λ settings. AreLimits settings.limits) }
+    ensures ports { IfOk result (λ settings. ArePorts settings.limits.copies settings.ports) }
 {
     match toml::table_from_slice(alloc, text) {
         Ok(table) => settings_in(alloc, &table),
