@@ -3,6 +3,7 @@ use Rattle.std.proofs.Common.{◌≡◌, ◌≢◌, ◌≤◌, ◌<◌, ℕ, ◌
 use Rattle.std.proofs.lemmas.List.{drop_all}
 use Rattle.std.proofs.lemmas.Bool.Decides.{nat_tests}
 use Rattle.std.specs.List.{list_all}
+use Rattle.std.specs.Option.{option_map_or}
 use Rattle.toml.specs.declared.value.Value.{Value}
 use Rattle.toml.specs.Data.{Data, string, integer, float, boolean, datetime, array, table, Items, as_str, as_array}
 use Rattle.toml.specs.View.{view, items_view}
@@ -11,7 +12,6 @@ use Rattle.rd_conf.specs.declared.key.Key.{Key}
 use Rattle.rd_conf.specs.declared.settings.SettingsFail.TheVariants.{WrongKind}
 use Rattle.rd_conf.specs.Rows.{is_address}
 use Rattle.rd_conf.specs.Lists.{items_list, are_texts, texts_of, text_or_none, texts_in, is_name, are_names, is_no_name_of, are_free_names, are_addresses, are_addresses_or_none}
-use Rattle.rd_conf.specs.Passes.{passes}
 
 -- a test of every value is one of every item
 list_all_items : (p : Data → Bool) (vs : List Value) → list_all (λ v. p (view v)) vs ≡ list_all p (items_list (items_view vs))
@@ -24,7 +24,7 @@ unfolding are_texts
 values_are_texts vs = list_all_items (λ d. is_some (as_str d)) vs
 
 passes_first : (p : List ℕ → Bool) (first : Data) (more : List (List ℕ)) (b : Bool) → b ≡ list_all p more
-    → (passes p (as_str first) && b) ≡ list_all p (text_or_none first ++ more)
+    → (option_map_or p (as_str first) true && b) ≡ list_all p (text_or_none first ++ more)
 passes_first p (string text) more b h = ap (λ x. p text && x) h
 passes_first p (integer z) more b h = h
 passes_first p (float x) more b h = h
@@ -34,7 +34,7 @@ passes_first p (array items) more b h = h
 passes_first p (table ms) more b h = h
 
 -- a test of every text is one of every value that is a text
-pub passes_all : (p : List ℕ → Bool) (vs : List Value) → list_all (λ v. passes p (as_str (view v))) vs ≡ list_all p (texts_of (items_view vs))
+pub passes_all : (p : List ℕ → Bool) (vs : List Value) → list_all (λ v. option_map_or p (as_str (view v)) true) vs ≡ list_all p (texts_of (items_view vs))
 unfolding texts_of
 passes_all p [] = refl
 passes_all p (v ∷ vs) = passes_first p (view v) (texts_of (items_view vs)) _ (passes_all p vs)
@@ -60,7 +60,7 @@ length_texts (v ∷ vs) h =
 
 -- names, where every value is a text
 pub names_from_values : (b : Bool) (vs : List Value) → are_texts (items_view vs) ≡ true → length vs ≤ 32
-    → b ≡ list_all (λ v. passes is_name (as_str (view v))) vs → b ≡ are_names (texts_of (items_view vs))
+    → b ≡ list_all (λ v. option_map_or is_name (as_str (view v)) true) vs → b ≡ are_names (texts_of (items_view vs))
 unfolding are_names
 names_from_values b vs h few same = rw (length_texts vs h, le-leb (length vs) 32 few) (same ∙ passes_all is_name vs)
 
@@ -70,13 +70,13 @@ many_values vs h many = rw (length_texts vs h) (grind (arith, nat_tests))
 
 -- names that are none of the firm ones
 pub free_from_values : (firm : List (List ℕ)) (b : Bool) (vs : List Value) → are_names (texts_of (items_view vs)) ≡ true
-    → b ≡ list_all (λ v. passes (is_no_name_of firm) (as_str (view v))) vs → b ≡ are_free_names firm (texts_of (items_view vs))
+    → b ≡ list_all (λ v. option_map_or (is_no_name_of firm) (as_str (view v)) true) vs → b ≡ are_free_names firm (texts_of (items_view vs))
 unfolding are_free_names
 free_from_values firm b vs h same = rw h (same ∙ passes_all (is_no_name_of firm) vs)
 
 -- addresses, where every value is a text
 pub addresses_from_values : (b : Bool) (copies : ℕ) (vs : List Value) → are_texts (items_view vs) ≡ true → length vs ≡ copies
-    → b ≡ list_all (λ v. passes is_address (as_str (view v))) vs → b ≡ are_addresses copies (texts_of (items_view vs))
+    → b ≡ list_all (λ v. option_map_or is_address (as_str (view v)) true) vs → b ≡ are_addresses copies (texts_of (items_view vs))
 unfolding are_addresses
 addresses_from_values b copies vs h count same =
     rw (length_texts vs h, eq-eqb (length vs) copies count) (same ∙ passes_all is_address vs)

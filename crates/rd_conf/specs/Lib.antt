@@ -1,7 +1,6 @@
 pub mod Keys
 pub mod Answers
 pub mod Rows
-pub mod Passes
 pub mod Lists
 pub mod Unknown
 pub mod Settings

@@ -1,11 +1,11 @@
 ghost use Rattle.std.specs.Prelude.{◌≡◌, ◌&&◌, not, nat_le, true, is_some, length, map, option_map, MatchResult, Ok, Err, IfOk, OnOk, ◌++◌};
 ghost use Rattle.std.specs.List.{list_all};
+ghost use Rattle.std.specs.Option.{option_map_or};
 ghost use Rattle.std.specs.Char.{to_ascii_lowercase};
 ghost use Rattle.toml.specs.Data.{as_str};
 ghost use Rattle.toml.specs.View.{view, items_view};
 ghost use Rattle.rd_conf.specs.Rows.{is_address};
 ghost use Rattle.rd_conf.specs.Lists.{are_texts, texts_of, text_or_none, texts_in, is_name, is_name_byte, are_names, is_no_name_of, are_addresses, are_free_names};
-ghost use Rattle.rd_conf.specs.Passes.{passes};
 
 use crate::key::Key;
 use crate::rows::is_address;
@@ -78,7 +78,6 @@ fn push_name(names: &mut Names, value: &Value) -> Result<(), NoMemory>
 }
 
 /// Whether there are at most 32 texts, each of them a name.
-#[tactic(auto, unfolding(crate::specs::Lists::are_names))]
 pub fn are_names(items: &[Value]) -> bool
     requires { are_texts (items_view items.now) ≡ true }
     ensures { result ≡ are_names (texts_of (items_view items.now)) }
@@ -87,13 +86,13 @@ pub fn are_names(items: &[Value]) -> bool
 }
 
 fn hold_names(items: &[Value]) -> bool
-    ensures { result ≡ list_all (λ value. passes is_name (as_str (view value))) items.now }
+    ensures { result ≡ list_all (λ value. option_map_or is_name (as_str (view value)) true) items.now }
 {
     items.iter().all(|item| holds_name(item))
 }
 
 fn holds_name(value: &Value) -> bool
-    ensures { result ≡ passes is_name (as_str (view value.now)) }
+    ensures { result ≡ option_map_or is_name (as_str (view value.now)) true }
 {
     match value.as_str() {
         Some(text) => is_name(text.as_bytes()),
@@ -131,13 +130,13 @@ pub fn are_free_names(firm: &Names, items: &[Value]) -> bool
 }
 
 fn are_apart(firm: &Names, items: &[Value]) -> bool
-    ensures { result ≡ list_all (λ value. passes (is_no_name_of firm.now) (as_str (view value))) items.now }
+    ensures { result ≡ list_all (λ value. option_map_or (is_no_name_of firm.now) (as_str (view value)) true) items.now }
 {
     items.iter().all(|item| is_apart(firm, item))
 }
 
 fn is_apart(firm: &Names, value: &Value) -> bool
-    ensures { result ≡ passes (is_no_name_of firm.now) (as_str (view value.now)) }
+    ensures { result ≡ option_map_or (is_no_name_of firm.now) (as_str (view value.now)) true }
 {
     match value.as_str() {
         Some(text) => !firm.has(text.as_bytes()),
@@ -146,7 +145,6 @@ fn is_apart(firm: &Names, value: &Value) -> bool
 }
 
 /// Whether there is a text of 1 to 255 bytes for each copy.
-#[tactic(auto, unfolding(crate::specs::Lists::are_addresses))]
 pub fn are_addresses(copies: u8, items: &[Value]) -> bool
     requires { are_texts (items_view items.now) ≡ true }
     ensures { result ≡ are_addresses copies (texts_of (items_view items.now)) }
@@ -155,13 +153,13 @@ pub fn are_addresses(copies: u8, items: &[Value]) -> bool
 }
 
 fn hold_addresses(items: &[Value]) -> bool
-    ensures { result ≡ list_all (λ value. passes is_address (as_str (view value))) items.now }
+    ensures { result ≡ list_all (λ value. option_map_or is_address (as_str (view value)) true) items.now }
 {
     items.iter().all(|item| holds_address(item))
 }
 
 fn holds_address(value: &Value) -> bool
-    ensures { result ≡ passes is_address (as_str (view value.now)) }
+    ensures { result ≡ option_map_or is_address (as_str (view value.now)) true }
 {
     match value.as_str() {
         Some(text) => is_address(text),
