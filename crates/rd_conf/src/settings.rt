@@ -14,25 +14,33 @@ pub enum DialectName {
     Pg,
 }
 
-/// Where the proxies listen and whom they call. What the file doesn't say is empty.
+/// Where the proxies listen and whom they call, as texts of 1 to 255 bytes. What the file doesn't say is empty.
 #[derive(Drop)]
 pub struct Ports {
+    /// Where clients are listened for.
     pub listen: Bytes,
-    /// As many as there are copies, or none.
+    /// Where the instances are called: one for each copy, or none.
     pub instances: Words,
-    /// As many as there are copies, or none.
+    /// Where the instances' own calls are listened for: one for each copy, or none.
     pub callers: Words,
+    /// Where the backend of these calls is.
     pub backend: Bytes,
+    /// Where the operator is listened for.
     pub operator: Bytes,
+    /// The file that keeps the notes of sessions. Without one they are kept in memory.
     pub records: Bytes,
 }
 
-/// What a settings file says. Its limits are in their ranges.
+/// What a settings file says.
 #[derive(Drop)]
 pub struct Settings {
+    /// What sessions are held to, in bytes and milliseconds.
     pub limits: Limits,
+    /// The dialect of the clients.
     pub incoming: DialectName,
+    /// The dialect of the backend.
     pub outgoing: DialectName,
+    /// At most 32 names a list, each of 1 to 64 lower-case letters, digits, `-` and `_`. No name is both firm and free.
     pub rules: NameRules,
     pub ports: Ports,
 }
@@ -48,7 +56,7 @@ pub enum SettingsFail {
     WrongKind(Key),
     /// The key's value is of the kind, but not one that the key can have.
     OutOfRange(Key),
-    /// No such key exists: the key as it stands, behind `ports.` where it stands in that table.
+    /// The version has no such key: the key's bytes as they are, behind `ports.` where it stands in that table.
     Unknown(Bytes),
     /// Memory ran out.
     NoMemory,
