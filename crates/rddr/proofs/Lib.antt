@@ -3,3 +3,4 @@ mod Sent
 mod Steps
 mod Ruled
 mod Outcomes
+pub mod Lines

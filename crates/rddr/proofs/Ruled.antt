@@ -1,7 +1,6 @@
 -- The rules that a session goes by.
 use Rattle.std.proofs.Common.{◌≡◌, ap, ◌∙◌}
 use Rattle.rd_dialect.specs.Grammar.{Grammar}
-use Rattle.rd_rules.specs.Exchange.{Rules}
 use Rattle.rd_reading.specs.declared.setup.Setup.{Setup}
 use Rattle.rd_reading.specs.Seen.{rules_of}
 use Rattle.rd_core.specs.Standing.{Seen}

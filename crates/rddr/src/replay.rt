@@ -194,7 +194,8 @@ fn replay_file<F: Files, K: Sink>(
 }
 
 fn replay_text<K: Sink>(alloc: Global, text: &[u8], out: &mut K) -> Result<u8, Fault>
-    requires { K.is_closed out.old ≡ false }
+    requires is_open { K.is_closed out.old ≡ false }
+    requires fits { length text.now ≤ 67108864 }
     ensures status { IfOk result (λ status. status ≡ (script_outcome (script_of 3 text.now)).status) }
     ensures text { OnOk result (K.held out.new ≡ held_with (K.held out.old) (script_outcome (script_of 3 text.now)).text) }
     ensures prefix { OnErr result (HoldsPrefix (K.held out.old) (K.held out.new) (script_outcome (script_of 3 text.now)).text) }

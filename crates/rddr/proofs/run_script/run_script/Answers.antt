@@ -1,4 +1,4 @@
-use Rattle.std.proofs.Common.{◌≡◌, [], sym, ap, ◌∙◌, subst, append-nil}
+use Rattle.std.proofs.Common.{◌≡◌, [], sym, ap, ◌∙◌, subst, append-nil, refl}
 use Rattle.rd_base.specs.History.{History}
 use Rattle.rd_base.specs.Outside.{HoldsPrefix, held_with}
 use Rattle.rd_reading.specs.Seen.{rules_of}
@@ -7,7 +7,7 @@ use Rattle.rd_rules.specs.Exchange.{Rules}
 use Rattle.rd_rules.specs.Sent.{transcript, final}
 use Rattle.rd_script.specs.Printed.{last_line}
 use Rattle.rddr.specs.Transcripts.{transcript_text, all_steps_text}
-use Rattle.rddr.proofs.Held.{held_then, holds_on, holds_longer, at_error}
+use Rattle.rddr.proofs.Held.{held_then, holds_on, holds_longer, holds_front, at_error}
 use Rattle.rddr.proofs.Ruled.{same_rules, made_rules}
 use Rattle.rddr.proofs.run_script.run_script.Goals as goal
 
@@ -56,4 +56,4 @@ returns-in_err-last_line-clause-err g c =
     let same : now ≡ rules = made_rules g.D.Dialect.grammar c.in_ok-session.session c.args.dialect (record { side = c.args.side; limits = c.args.limits }) c.in_ok-session.ensures.dialect c.in_ok-session.ensures.setup in
     let h : History = c.args.script.now.entries in
     let steps = subst (λ (r : Rules). g.K.Sink.held c.run_steps.new.out ≡ held_with (g.K.Sink.held c.args.out.now) (all_steps_text r h)) same c.in_ok-run_steps.ensures.ok in
-    at_error c.from_residual-in_err-last_line.result (holds_front (g.K.Sink.held c.args.out.now) (g.K.Sink.held c.run_steps.new.out) (all_steps_text rules h) (last_line (final rules h)) steps)
+    at_error c.from_residual-in_err-last_line.result (holds_front (g.K.Sink.held c.args.out.now) (g.K.Sink.held c.run_steps.new.out) (all_steps_text rules h) (last_line (final rules h)) (transcript_text (transcript rules h)) refl steps)
