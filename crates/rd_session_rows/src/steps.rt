@@ -1,5 +1,5 @@
 use crate::runs::limits;
-use rd_base::{Bytes, Happening, Link, NoMemory, Row, Rows, What, is_row_word};
+use rd_base::{Bytes, Ending, Happening, Link, NoMemory, Row, Rows, What, is_row_word};
 use rd_dialect::Line;
 use rd_in_core::InSession;
 use rd_out_core::OutSession;
@@ -126,5 +126,50 @@ fn a_told_row_of_two_texts(rt: HostRuntime) -> Result<(), Fail> {
     ] {
         assert_eq!(rt; sends.bytes_at(place), text.as_bytes());
     }
+    Ok(())
+}
+
+/// A client's piece of 16,384 bytes, the last of which is this one.
+fn large_piece(alloc: Global, last: u8) -> Result<Happening, NoMemory> {
+    let mut block = [b'a'; 16_384];
+    block[16_383] = last;
+    let bytes = Bytes::from_slice(alloc, &block)?;
+    Ok(Happening {
+        at: 0,
+        what: What::Piece(Link(3), bytes),
+    })
+}
+
+/// A session that has heard 63 such pieces, without a line feed.
+fn large_session(alloc: Global) -> Result<InSession<Line>, NoMemory> {
+    let mut session = InSession::new(alloc, Line, limits(false, false))?;
+    for _ in 1..64 {
+        session.take(&large_piece(alloc, b'a')?, &Rows::new(alloc))?;
+    }
+    Ok(session)
+}
+
+/// A request of 1,048,576 bytes goes out in the step that brings its line feed.
+#[test]
+fn the_largest_request(rt: HostRuntime) -> Result<(), Fail> {
+    let alloc = rt.alloc();
+    let mut session = large_session(alloc)?;
+    assert_eq!(rt; session.open_bytes(), 63 * 16_384);
+    let sends = session.take(&large_piece(alloc, b'\n')?, &Rows::new(alloc))?;
+    assert_eq!(rt; sends.len(), 3);
+    assert_eq!(rt; sends.bytes_at(2).len(), 1_048_576);
+    assert_eq!(rt; session.ending(), None);
+    Ok(())
+}
+
+/// Without a line feed as many bytes are open, and one byte more ends the session.
+#[test]
+fn a_request_that_is_too_large(rt: HostRuntime) -> Result<(), Fail> {
+    let alloc = rt.alloc();
+    let mut session = large_session(alloc)?;
+    session.take(&large_piece(alloc, b'a')?, &Rows::new(alloc))?;
+    assert_eq!(rt; session.ending(), None);
+    say(alloc, &mut session, 3, "a")?;
+    assert_eq!(rt; session.ending(), Some(Ending::TooBig { link: Link(3) }));
     Ok(())
 }

@@ -50,9 +50,13 @@ fn replayed(alloc: Global, script: &str) -> Result<Answer, Fail> {
     answer_to(alloc, &["replay", "s"], script, Vec::new(alloc))
 }
 
-/// A script of these pieces, all at moment 0.
+/// A script of a client's session of these pieces, all at moment 0.
 fn script_of(alloc: Global, pieces: &[(u8, &str)]) -> Result<String, AllocError> {
-    let mut script = "side incoming\n".to_string(alloc)?;
+    script_on(alloc, "incoming", pieces)
+}
+
+fn script_on(alloc: Global, side: &str, pieces: &[(u8, &str)]) -> Result<String, AllocError> {
+    let mut script = format!(in alloc; "side {side}\n")?;
     for (link, text) in pieces {
         let hex = hex::encode(alloc, text.as_bytes())?;
         let line = format!(in alloc; "0 piece {link} {hex}\n")?;
@@ -269,20 +273,198 @@ fn short_scripts_and_bad_ones(rt: HostRuntime) -> Result<(), Fail> {
     Ok(())
 }
 
-/// A file of 65,536 bytes is read; of one more, none.
+/// What is heard beside pieces: what a script has behind its first line, the last line and the status.
 #[test]
-fn refuses_a_file_that_is_too_long(rt: HostRuntime) -> Result<(), Fail> {
+fn clocks_faults_and_stops(rt: HostRuntime) -> Result<(), Fail> {
     let alloc = rt.alloc();
-    let mut script = "side incoming\n".to_string(alloc)?;
-    for _ in script.len()..65_536 {
-        script.push_str("x")?;
+    for (lines, text, status) in [
+        (
+            "0 piece 3 61\n29999 timer\n30000 timer\n",
+            "end Late Request\n",
+            1,
+        ),
+        ("0 piece 3 61\n29999 timer\n", "live\n", 0),
+        ("60000 timer\n", "end Late Idle\n", 1),
+        ("0 stop\n", "end Stopped\n", 1),
+        ("0 readfail 1\n", "end LinkFault link 1\n", 1),
+        ("0 writefail 2\n0 stop\n", "end LinkFault link 2\n", 1),
+    ] {
+        let script = format!(in alloc; "side incoming\n{lines}")?;
+        let run = replayed(alloc, script.as_str())?;
+        assert_eq!(rt; run.text.as_str(), text);
+        assert_eq!(rt; run.status, status);
     }
-    let whole = replayed(alloc, script.as_str())?;
-    assert_eq!(rt; whole.text.as_str(), "script: BadLine 2\n");
-    script.push_str("x")?;
+    Ok(())
+}
+
+/// A request that not all reply to in time.
+#[test]
+fn a_late_reply(rt: HostRuntime) -> Result<(), Fail> {
+    let alloc = rt.alloc();
+    let script = "side incoming\n100 piece 3 67657420610a\n5099 timer\n5100 timer\n";
+    let want = format!(in alloc; "{REQUESTS}end Late Gather\n")?;
+    let run = replayed(alloc, script)?;
+    assert_eq!(rt; run.text.as_str(), want.as_str());
+    assert_eq!(rt; run.status, 1);
+    Ok(())
+}
+
+/// Outgoing: what a script has behind its first line, the last line and the status.
+#[test]
+fn callers_that_end_and_callers_that_are_late(rt: HostRuntime) -> Result<(), Fail> {
+    let alloc = rt.alloc();
+    let late = "100 piece 0 7120310a\n200 piece 1 7120310a\n5099 timer\n";
+    let later = format!(in alloc; "{late}5100 timer\n")?;
+    for (lines, text, status) in [
+        ("0 end 0\n0 end 1\n0 end 2\n", "end Done\n", 0),
+        (late, "live\n", 0),
+        (later.as_str(), "end Late Gather\n", 1),
+    ] {
+        let script = format!(in alloc; "side outgoing\n{lines}")?;
+        let run = replayed(alloc, script.as_str())?;
+        assert_eq!(rt; run.text.as_str(), text);
+        assert_eq!(rt; run.status, status);
+    }
+    Ok(())
+}
+
+/// The callers' bytes in this order: caller k's n-th byte comes where k stands for the n-th time.
+fn calls_in_order(alloc: Global, order: &[u8; 12]) -> Result<String, AllocError> {
+    let mut script = "side outgoing\n".to_string(alloc)?;
+    let mut said = [0_usize; 3];
+    for caller in order {
+        let place = said.get(*caller as usize).copied().unwrap_or(0);
+        let byte = ["71", "20", "31", "0a"].get(place).copied().unwrap_or("");
+        script.push_str(format!(in alloc; "0 piece {caller} {byte}\n")?.as_str())?;
+        if let Some(count) = said.get_mut(*caller as usize) {
+            *count = place.wrapping_add(1);
+        }
+    }
+    script.push_str("0 piece 3 72\n0 piece 3 0a\n")?;
+    Ok(script)
+}
+
+/// However the callers' bytes come, one call goes out, with the last byte, and each caller gets its reply.
+#[test]
+fn merged_calls(rt: HostRuntime) -> Result<(), Fail> {
+    let alloc = rt.alloc();
+    for order in [
+        [0, 0, 0, 0, 1, 1, 1, 1, 2, 2, 2, 2],
+        [2, 2, 2, 2, 1, 1, 1, 1, 0, 0, 0, 0],
+        [0, 1, 2, 0, 1, 2, 0, 1, 2, 0, 1, 2],
+        [1, 1, 1, 1, 0, 2, 0, 2, 0, 2, 0, 2],
+        [0, 0, 0, 1, 1, 1, 1, 2, 2, 2, 2, 0],
+    ] {
+        let script = calls_in_order(alloc, &order)?;
+        let run = replayed(alloc, script.as_str())?;
+        assert_eq!(rt;
+            run.text.as_str(),
+            "12 to 3 7120310a\n14 to 0 720a\n14 to 1 720a\n14 to 2 720a\nlive\n"
+        );
+        assert_eq!(rt; run.status, 0);
+    }
+    Ok(())
+}
+
+/// What the copies have said before their units are whole, a further line, and how the session then stands.
+#[test]
+fn a_disagreement_ends_a_session_early(rt: HostRuntime) -> Result<(), Fail> {
+    let alloc = rt.alloc();
+    for (first, second, third, more, last, status) in [
+        (
+            "ok 1\n",
+            "ok 1\n",
+            "no ",
+            "",
+            "end Disagree exchange 1 copy 2 place 0\n",
+            1,
+        ),
+        ("ok 1\n", "ok 1\n", "no", "", "live\n", 0),
+        (
+            "ok 1\n",
+            "ok 1\n",
+            "no ",
+            "5000 timer\n",
+            "end Disagree exchange 1 copy 2 place 0\n",
+            1,
+        ),
+        ("a;", "a:", "", "", "live\n", 0),
+    ] {
+        let mut pieces = vec![in alloc; (3, "get a\n"), (0, first), (1, second)]?;
+        if !third.is_empty() {
+            pieces.push((2, third))?;
+        }
+        let mut script = script_of(alloc, pieces.as_slice())?;
+        script.push_str(more)?;
+        let want = format!(in alloc; "{REQUESTS}{last}")?;
+        let run = replayed(alloc, script.as_str())?;
+        assert_eq!(rt; run.text.as_str(), want.as_str());
+        assert_eq!(rt; run.status, status);
+    }
+    Ok(())
+}
+
+#[test]
+fn calls_that_differ_end_a_session_early(rt: HostRuntime) -> Result<(), Fail> {
+    let alloc = rt.alloc();
+    let pieces = [(0, "q 1\n"), (1, "q 1\n"), (2, "r ")];
+    let script = script_on(alloc, "outgoing", &pieces)?;
     let run = replayed(alloc, script.as_str())?;
-    assert_eq!(rt; run.text.as_str(), "script: too long\n");
-    assert_eq!(rt; run.status, 3);
+    assert_eq!(rt;
+        run.text.as_str(),
+        "end Disagree exchange 1 copy 2 place 0\n"
+    );
+    assert_eq!(rt; run.status, 1);
+    Ok(())
+}
+
+/// A row told to the client's request: each copy's own word; and what makes its line a bad one.
+#[test]
+fn rows_told_to_a_request(rt: HostRuntime) -> Result<(), Fail> {
+    let alloc = rt.alloc();
+    let a = hex::encode(alloc, b"aaaaaaaaaaaaaaaa")?;
+    let b = hex::encode(alloc, b"bbbbbbbbbbbbbbbb")?;
+    let c = hex::encode(alloc, b"cccccccccccccccc")?;
+    let told = format!(in alloc; "side incoming\ntold {a} {b} {c}\n0 piece 3 67657420{a}0a\n")?;
+    let want = format!(in alloc;
+        "1 to 0 67657420{a}0a\n1 to 1 67657420{b}0a\n1 to 2 67657420{c}0a\nlive\n"
+    )?;
+    let two = format!(in alloc; "side incoming\ntold {a} {b}\n0 piece 3 67657420{a}0a\n")?;
+    let last = format!(in alloc; "side incoming\n0 piece 3 67\ntold {a} {b} {c}\n")?;
+    for (script, text, status) in [
+        (told.as_str(), want.as_str(), 0),
+        (two.as_str(), "script: BadLine 2\n", 3),
+        (last.as_str(), "script: BadLine 3\n", 3),
+    ] {
+        let run = replayed(alloc, script)?;
+        assert_eq!(rt; run.text.as_str(), text);
+        assert_eq!(rt; run.status, status);
+    }
+    Ok(())
+}
+
+/// Copies' words of 15 bytes give no row: the second request goes out as it is.
+#[test]
+fn a_word_of_15_bytes_is_not_swapped(rt: HostRuntime) -> Result<(), Fail> {
+    let alloc = rt.alloc();
+    let pieces = [
+        (3, "get a\n"),
+        (0, "is aaaaaaaaaaaaaaa\n"),
+        (1, "is bbbbbbbbbbbbbbb\n"),
+        (2, "is ccccccccccccccc\n"),
+        (3, "get aaaaaaaaaaaaaaa\n"),
+    ];
+    let sends = [
+        (4, 3, "is aaaaaaaaaaaaaaa\n"),
+        (5, 0, "get aaaaaaaaaaaaaaa\n"),
+        (5, 1, "get aaaaaaaaaaaaaaa\n"),
+        (5, 2, "get aaaaaaaaaaaaaaa\n"),
+    ];
+    let script = script_of(alloc, &pieces)?;
+    let after = transcript_of(alloc, &sends, "live\n")?;
+    let want = format!(in alloc; "{REQUESTS}{after}")?;
+    let run = replayed(alloc, script.as_str())?;
+    assert_eq!(rt; run.text.as_str(), want.as_str());
     Ok(())
 }
 
