@@ -78,3 +78,27 @@ fn what_stands_behind_the_last_call(rt: HostRuntime) -> Result<(), Fail> {
     }
     Ok(())
 }
+
+/// The same of the small dialect, in whose next phase the second calls begin.
+#[test]
+fn a_call_that_differs_behind_the_last_one(rt: HostRuntime) -> Result<(), Fail> {
+    let alloc = rt.alloc();
+    for (next, ending) in [
+        ("u me\nq x ", "end Retired\n"),
+        ("u me\nq y ", "end Disagree exchange 2 copy 2 place 2\n"),
+        ("u me\n!", "end Unsupported link 2 code 7\n"),
+    ] {
+        let pieces = [(0, "u me\nq x "), (1, "u me\nq x "), (2, next), (3, "y\n")];
+        let sends = [
+            (3, 3, "u me\n"),
+            (4, 0, "y\n"),
+            (4, 1, "y\n"),
+            (4, 2, "y\n"),
+        ];
+        let script = script_of(alloc, "outgoing", &pieces, "")?;
+        let want = transcript_of(alloc, &sends, ending)?;
+        let text = run_out(alloc, Toy, limits(false, true), script.as_str())?;
+        assert_eq!(rt; text.as_str(), want.as_str());
+    }
+    Ok(())
+}
