@@ -16,3 +16,4 @@ mod words;
 pub use generator::generate;
 pub use printed::{last_line, send_line};
 pub use script::{Script, ScriptRefusal, read_script};
+pub use words::read_number;

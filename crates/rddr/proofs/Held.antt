@@ -1,5 +1,6 @@
 -- What a sink holds after one text and another.
-use Rattle.std.proofs.Common.{◌≡◌, ℕ, List, [], ◌++◌, Option, Some, None, Result, Ok, Err, refl, sym, ap, ◌∙◌, append_assoc, append-nil}
+use Rattle.std.proofs.Common.{◌≡◌, ℕ, Bool, true, false, List, [], ◌++◌, Option, Some, None, Result, Ok, Err, refl, sym, ap, ◌∙◌, subst, append_assoc, append-nil}
+use Rattle.std.proofs.lemmas.Result.{on_err_weaker}
 use Rattle.std.specs.Result.{OnOk, OnErr}
 use Rattle.rd_base.specs.Outside.{HoldsPrefix, held_with}
 
@@ -50,3 +51,12 @@ holds_longer before after a b h = record {
   begins = record { rest = h.begins.rest ++ b; is = sym (append_assoc h.part h.begins.rest b) ∙ ap (λ x. x ++ b) h.begins.is };
   holds = h.holds;
 }
+
+-- a prefix of what was said, where it was the text that was wanted; and nothing, where nothing was said
+pub holds_wanted : {I T E : Type 0} (r : Result T E) (before after : Option (List ℕ)) (said : List ℕ) (wanted : I → List ℕ) (tells : I → Type 0) (is_told : Bool)
+    → (is_told ≡ true → (i : I) → tells i → wanted i ≡ said) → (is_told ≡ false → after ≡ before) → OnErr r (HoldsPrefix before after said)
+    → OnErr r ((i : I) → tells i → HoldsPrefix before after (wanted i))
+holds_wanted r before after said wanted tells true told silent holds =
+    on_err_weaker r (λ held i t. subst (λ (text : List ℕ). HoldsPrefix before after text) (sym (told refl i t)) held) holds
+holds_wanted r before after said wanted tells false told silent holds =
+    at_error r (λ i t. holds_none before after (wanted i) (silent refl))

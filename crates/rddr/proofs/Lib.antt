@@ -2,5 +2,8 @@ mod Held
 mod Sent
 mod Steps
 mod Ruled
-mod Outcomes
+mod Sums
+mod Events
+mod Files
+mod Refused
 pub mod Lines

@@ -1,3 +1,6 @@
-pub mod Defaults
+pub mod Forms
 pub mod Transcripts
+pub mod Summaries
+pub mod Counting
 pub mod Outcome
+pub mod Works

@@ -1,12 +1,16 @@
-//! Replays recorded sessions.
+//! Checks settings, replays recorded sessions, and makes and runs generated ones.
 #![tactic(auto)]
 
+mod command;
 mod disk_files;
+mod refusal;
 mod replay;
 mod run_script;
 mod std_sink;
+mod summary;
 #[cfg(test)]
 mod tests;
+mod work;
 mod writing;
 
 use disk_files::DiskFiles;

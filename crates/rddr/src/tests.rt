@@ -46,7 +46,7 @@ fn answer_to(
 }
 
 /// What a replay of a script comes to.
-fn replayed(alloc: Global, script: &str) -> Result<Answer, Fail> {
+fn transcript_outcome(alloc: Global, script: &str) -> Result<Answer, Fail> {
     answer_to(alloc, &["replay", "s"], script, Vec::new(alloc))
 }
 
@@ -104,7 +104,7 @@ fn three_equal_replies_go_out_once(rt: HostRuntime) -> Result<(), Fail> {
     for (more, last, status) in cases {
         let script = format!(in alloc; "{THREE_EQUAL}{more}")?;
         let want = format!(in alloc; "{REQUESTS}4 to 3 6f6b20310a\n{last}")?;
-        let run = replayed(alloc, script.as_str())?;
+        let run = transcript_outcome(alloc, script.as_str())?;
         assert_eq!(rt; run.text.as_str(), want.as_str());
         assert_eq!(rt; run.status, status);
     }
@@ -169,7 +169,7 @@ fn replies_agree_or_end_the_session(rt: HostRuntime) -> Result<(), Fail> {
             want.push_str(transcript_of(alloc, &[(4, 3, first)], "")?.as_str())?;
         }
         want.push_str(last)?;
-        let run = replayed(alloc, script.as_str())?;
+        let run = transcript_outcome(alloc, script.as_str())?;
         assert_eq!(rt; run.text.as_str(), want.as_str());
         assert_eq!(rt; run.status, status);
     }
@@ -209,7 +209,7 @@ fn masks_64_words_and_no_more(rt: HostRuntime) -> Result<(), Fail> {
             want.push_str(transcript_of(alloc, &[(4, 3, first.as_str())], "")?.as_str())?;
         }
         want.push_str(last)?;
-        let run = replayed(alloc, script.as_str())?;
+        let run = transcript_outcome(alloc, script.as_str())?;
         assert_eq!(rt; run.text.as_str(), want.as_str());
         assert_eq!(rt; run.status, status);
     }
@@ -249,7 +249,7 @@ fn a_shown_word_is_swapped_for_each_copy(rt: HostRuntime) -> Result<(), Fail> {
         (14, 3, "2 1495354192 0000001495354192\n"),
     ];
     let want = transcript_of(alloc, &sends, "end Done\n")?;
-    let run = replayed(alloc, script.as_str())?;
+    let run = transcript_outcome(alloc, script.as_str())?;
     assert_eq!(rt; run.text.as_str(), want.as_str());
     assert_eq!(rt; run.status, 0);
     Ok(())
@@ -266,7 +266,7 @@ fn short_scripts_and_bad_ones(rt: HostRuntime) -> Result<(), Fail> {
         (seventh.as_str(), "script: BadLine 7\n", 3),
     ];
     for (script, text, status) in cases {
-        let run = replayed(alloc, script)?;
+        let run = transcript_outcome(alloc, script)?;
         assert_eq!(rt; run.text.as_str(), text);
         assert_eq!(rt; run.status, status);
     }
@@ -290,7 +290,7 @@ fn clocks_faults_and_stops(rt: HostRuntime) -> Result<(), Fail> {
         ("0 writefail 2\n0 stop\n", "end LinkFault link 2\n", 1),
     ] {
         let script = format!(in alloc; "side incoming\n{lines}")?;
-        let run = replayed(alloc, script.as_str())?;
+        let run = transcript_outcome(alloc, script.as_str())?;
         assert_eq!(rt; run.text.as_str(), text);
         assert_eq!(rt; run.status, status);
     }
@@ -303,7 +303,7 @@ fn a_late_reply(rt: HostRuntime) -> Result<(), Fail> {
     let alloc = rt.alloc();
     let script = "side incoming\n100 piece 3 67657420610a\n5099 timer\n5100 timer\n";
     let want = format!(in alloc; "{REQUESTS}end Late Gather\n")?;
-    let run = replayed(alloc, script)?;
+    let run = transcript_outcome(alloc, script)?;
     assert_eq!(rt; run.text.as_str(), want.as_str());
     assert_eq!(rt; run.status, 1);
     Ok(())
@@ -321,7 +321,7 @@ fn callers_that_end_and_callers_that_are_late(rt: HostRuntime) -> Result<(), Fai
         (later.as_str(), "end Late Gather\n", 1),
     ] {
         let script = format!(in alloc; "side outgoing\n{lines}")?;
-        let run = replayed(alloc, script.as_str())?;
+        let run = transcript_outcome(alloc, script.as_str())?;
         assert_eq!(rt; run.text.as_str(), text);
         assert_eq!(rt; run.status, status);
     }
@@ -356,7 +356,7 @@ fn merged_calls(rt: HostRuntime) -> Result<(), Fail> {
         [0, 0, 0, 1, 1, 1, 1, 2, 2, 2, 2, 0],
     ] {
         let script = calls_in_order(alloc, &order)?;
-        let run = replayed(alloc, script.as_str())?;
+        let run = transcript_outcome(alloc, script.as_str())?;
         assert_eq!(rt;
             run.text.as_str(),
             "12 to 3 7120310a\n14 to 0 720a\n14 to 1 720a\n14 to 2 720a\nlive\n"
@@ -397,7 +397,7 @@ fn a_disagreement_ends_a_session_early(rt: HostRuntime) -> Result<(), Fail> {
         let mut script = script_of(alloc, pieces.as_slice())?;
         script.push_str(more)?;
         let want = format!(in alloc; "{REQUESTS}{last}")?;
-        let run = replayed(alloc, script.as_str())?;
+        let run = transcript_outcome(alloc, script.as_str())?;
         assert_eq!(rt; run.text.as_str(), want.as_str());
         assert_eq!(rt; run.status, status);
     }
@@ -409,7 +409,7 @@ fn calls_that_differ_end_a_session_early(rt: HostRuntime) -> Result<(), Fail> {
     let alloc = rt.alloc();
     let pieces = [(0, "q 1\n"), (1, "q 1\n"), (2, "r ")];
     let script = script_on(alloc, "outgoing", &pieces)?;
-    let run = replayed(alloc, script.as_str())?;
+    let run = transcript_outcome(alloc, script.as_str())?;
     assert_eq!(rt;
         run.text.as_str(),
         "end Disagree exchange 1 copy 2 place 0\n"
@@ -436,7 +436,7 @@ fn rows_told_to_a_request(rt: HostRuntime) -> Result<(), Fail> {
         (two.as_str(), "script: BadLine 2\n", 3),
         (last.as_str(), "script: BadLine 3\n", 3),
     ] {
-        let run = replayed(alloc, script)?;
+        let run = transcript_outcome(alloc, script)?;
         assert_eq!(rt; run.text.as_str(), text);
         assert_eq!(rt; run.status, status);
     }
@@ -463,7 +463,7 @@ fn a_word_of_15_bytes_is_not_swapped(rt: HostRuntime) -> Result<(), Fail> {
     let script = script_of(alloc, &pieces)?;
     let after = transcript_of(alloc, &sends, "live\n")?;
     let want = format!(in alloc; "{REQUESTS}{after}")?;
-    let run = replayed(alloc, script.as_str())?;
+    let run = transcript_outcome(alloc, script.as_str())?;
     assert_eq!(rt; run.text.as_str(), want.as_str());
     Ok(())
 }

@@ -1,17 +1,17 @@
-use Rattle.std.proofs.Common.{ℕ, List, Option, ap, ◌∙◌}
-use Rattle.std.proofs.lemmas.Result.{on_ok_weaker}
-use Rattle.rd_base.specs.Outside.{held_with}
-use Rattle.rddr.specs.Outcome.{named_outcome}
+use Rattle.std.proofs.Common.{◌≡◌, List, Some, map, ap}
+use Rattle.std.specs.Prelude.{string_bytes}
+use Rattle.rd_base.specs.Outside.{NamedFile}
+use Rattle.rddr.specs.Outcome.{Outcome, outcome}
+use Rattle.rddr.specs.Works.{is_told, refusal_outcome}
+use Rattle.rddr.proofs.Held.{holds_wanted}
 use Rattle.rddr.proofs.replay.answer.Goals as goal
 
-pub returns-in-Some-clause-text : goal.returns-in-Some-clause-text
-returns-in-Some-clause-text g c =
-    on_ok_weaker c.replay_file.result (λ is all tells. is all tells ∙ ap (λ (o : Option (List ℕ)). held_with (g.K.Sink.held c.args.out.now) (named_outcome o all).text) c.in-Some.ensures) c.replay_file.ensures.text
-
-pub returns-in_ok-push-in-None-clause-text : goal.returns-in_ok-push-in-None-clause-text
-returns-in_ok-push-in-None-clause-text g c = λ all tells.
-    c.in_ok-push-in-None.ensures.ok ∙ ap (held_with (g.K.Sink.held c.args.out.now)) (c.as_bytes.ensures.value ∙ c.usage.ensures) ∙ ap (λ (o : Option (List ℕ)). held_with (g.K.Sink.held c.args.out.now) (named_outcome o all).text) c.in-None.ensures
-
-pub returns-in_ok-push-in-None-clause-other_words : goal.returns-in_ok-push-in-None-clause-other_words
-returns-in_ok-push-in-None-clause-other_words g c = λ none.
-    c.in_ok-push-in-None.ensures.ok ∙ ap (held_with (g.K.Sink.held c.args.out.now)) (c.as_bytes.ensures.value ∙ c.usage.ensures)
+pub returns-in-Err-clause-prefix : goal.returns-in-Err-clause-prefix
+returns-in-Err-clause-prefix g c =
+    holds_wanted c.refuse.result (g.K.Sink.held c.args.out.now) (g.K.Sink.held c.refuse.new.out) (refusal_outcome c.in-Err.refusal).text
+    (λ (all : List NamedFile). (outcome (map string_bytes c.args.words.now) all).text)
+    (λ (all : List NamedFile). g.F.Files.files c.args.files.now ≡ Some all)
+    (is_told c.in-Err.refusal)
+    (λ told all tells. ap (λ (o : Outcome). o.text) (c.in-Err.ensures.refused told all tells))
+    c.refuse.ensures.silent
+    c.refuse.ensures.prefix
