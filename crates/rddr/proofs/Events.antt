@@ -79,11 +79,14 @@ taken_live r h e live = now ∙ length-append h (e ∷ []) ∙ sym (ap (λ o. le
   where
     none : stop_by (trouble r) h ≡ None
     none = live_unstopped (trouble r) h live
+
     all : History
     all = h ++ e ∷ []
+
     by : (b : Bool) → length (unwrap_or (if b then Some (h ++ e ∷ []) else None) (h ++ e ∷ [])) ≡ length (h ++ e ∷ [])
     by true = refl
     by false = refl
+
     now : length (taken r (h ++ e ∷ [])) ≡ length (h ++ e ∷ [])
     now =
         ap (λ o. length (unwrap_or o (h ++ e ∷ []))) (shortest_more (λ g. is_some (trouble r g)) [] h e ∙ ap (λ o. or_later o (if_passes (λ g. is_some (trouble r g)) (h ++ e ∷ []))) none)
@@ -119,6 +122,7 @@ none_acted r = by (is_some (trouble r []))
     back : (b : Bool) → ◌≡◌ {A = History} (if b then [] else []) []
     back true = refl
     back false = refl
+
     by : (b : Bool) → acted_of r [] (if b then Some [] else None) ≡ []
     by true = back (is_some (unsolicited r []))
     by false = refl
@@ -142,6 +146,7 @@ none_given limits link =
   where
     r : Rules
     r = line_rules limits Incoming
+
     by : (b : Bool) → ◌≡◌ {A = List ℕ} (if b then [] else []) []
     by true = refl
     by false = refl

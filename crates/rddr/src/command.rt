@@ -12,10 +12,7 @@ pub enum Command<'a> {
     /// `replay SCRIPT`
     Replay { script: &'a str },
     /// `replay SETTINGS SCRIPT`
-    ReplayUnder {
-        settings: &'a str,
-        script: &'a str,
-    },
+    ReplayUnder { settings: &'a str, script: &'a str },
     /// `gen SETTINGS NUMBER`, of 1 to 9,999 exchanges
     Generate { settings: &'a str, number: u16 },
 }
@@ -27,7 +24,11 @@ pub fn command_of(words: &[String]) -> Option<Command<'_>>
 {
     match words {
         [command, file] => form_of_two(command.as_str(), file.as_str()),
-        [command, settings, last] => form_of_three(command.as_str(), settings.as_str(), last.as_str()),
+        [command, settings, last] => form_of_three(
+            command.as_str(),
+            settings.as_str(),
+            last.as_str(),
+        ),
         _ => None,
     }
 }

@@ -6,6 +6,8 @@ mod disk_files;
 mod refusal;
 mod replay;
 mod run_script;
+#[cfg(test)]
+mod settings_tests;
 mod std_sink;
 mod summary;
 #[cfg(test)]

@@ -5,11 +5,11 @@ use std::test::Fail;
 
 /// What a run came to.
 #[derive(Drop)]
-struct Answer {
-    status: u8,
-    text: String,
-    read_faults: u64,
-    write_faults: u64,
+pub struct Answer {
+    pub status: u8,
+    pub text: String,
+    pub read_faults: u64,
+    pub write_faults: u64,
 }
 
 fn words_of(alloc: Global, words: &[&str]) -> Result<Vec<String>, AllocError> {
@@ -25,16 +25,18 @@ fn text_of(alloc: Global, bytes: &[u8]) -> Result<String, Fail> {
     Ok(text.to_string(alloc)?)
 }
 
-/// The answer to these words over one file, `s`, and an output of which these pushes fail.
-fn answer_to(
+/// The answer to these words over these files, and an output of which these pushes fail.
+pub fn answer_to(
     alloc: Global,
     words: &[&str],
-    script: &str,
+    named: &[(&str, &str)],
     failing: Vec<PushFault>,
 ) -> Result<Answer, Fail> {
     let words = words_of(alloc, words)?;
     let mut files = MemFiles::new(alloc, Vec::new(alloc));
-    files.add("s", script.as_bytes())?;
+    for (name, text) in named {
+        files.add(name, text.as_bytes())?;
+    }
     let mut out = MemSink::new(alloc, 0, 0, failing);
     let status = replay_main(alloc, words.as_slice(), &mut files, &mut out);
     Ok(Answer {
@@ -47,11 +49,11 @@ fn answer_to(
 
 /// What a replay of a script comes to.
 fn transcript_outcome(alloc: Global, script: &str) -> Result<Answer, Fail> {
-    answer_to(alloc, &["replay", "s"], script, Vec::new(alloc))
+    answer_to(alloc, &["replay", "s"], &[("s", script)], Vec::new(alloc))
 }
 
 /// A script of a client's session of these pieces, all at moment 0.
-fn script_of(alloc: Global, pieces: &[(u8, &str)]) -> Result<String, AllocError> {
+pub fn script_of(alloc: Global, pieces: &[(u8, &str)]) -> Result<String, AllocError> {
     script_on(alloc, "incoming", pieces)
 }
 
@@ -81,14 +83,14 @@ fn transcript_of(
     Ok(text)
 }
 
-const THREE_EQUAL: &str = "side incoming
+pub const THREE_EQUAL: &str = "side incoming
 0 piece 3 67657420610a
 5 piece 0 6f6b20310a
 6 piece 1 6f6b20310a
 7 piece 2 6f6b20310a
 ";
 
-const REQUESTS: &str = "1 to 0 67657420610a\n1 to 1 67657420610a\n1 to 2 67657420610a\n";
+pub const REQUESTS: &str = "1 to 0 67657420610a\n1 to 1 67657420610a\n1 to 2 67657420610a\n";
 
 /// What follows row three equal replies in a script, what follows the client's reply in the transcript, and the status.
 #[test]
@@ -468,7 +470,7 @@ fn a_word_of_15_bytes_is_not_swapped(rt: HostRuntime) -> Result<(), Fail> {
     Ok(())
 }
 
-const USAGE: &str =
+pub const USAGE: &str =
     "usage: rddr check SETTINGS\n       rddr replay SCRIPT\n       rddr replay SETTINGS SCRIPT\n       rddr gen SETTINGS NUMBER\n       rddr run SETTINGS\n";
 
 #[test]
@@ -478,12 +480,21 @@ fn other_words_print_the_usage(rt: HostRuntime) -> Result<(), Fail> {
         none.as_slice(),
         &["replay"],
         &["s"],
-        &["replay", "s", "s"],
         &["Replay", "s"],
-        &["check", "s"],
+        &["check"],
+        &["check", "s", "s"],
+        &["replay", "s", "s", "s"],
+        &["gen", "s"],
+        &["gen", "s", "0"],
+        &["gen", "s", "01"],
+        &["gen", "s", "+1"],
+        &["gen", "s", "10000"],
+        &["gen", "s", ""],
+        &["run", "s"],
     ];
     for words in cases {
-        let run = answer_to(rt.alloc(), words, THREE_EQUAL, Vec::new(rt.alloc()))?;
+        let files = [("s", THREE_EQUAL)];
+        let run = answer_to(rt.alloc(), words, &files, Vec::new(rt.alloc()))?;
         assert_eq!(rt; run.text.as_str(), USAGE);
         assert_eq!(rt; run.status, 2);
     }
@@ -495,7 +506,7 @@ fn a_file_that_is_not_there_is_a_fault(rt: HostRuntime) -> Result<(), Fail> {
     let run = answer_to(
         rt.alloc(),
         &["replay", "t"],
-        THREE_EQUAL,
+        &[("s", THREE_EQUAL)],
         Vec::new(rt.alloc()),
     )?;
     assert_eq!(rt; run.text.as_str(), "");
@@ -509,7 +520,7 @@ fn a_file_that_is_not_there_is_a_fault(rt: HostRuntime) -> Result<(), Fail> {
 fn an_output_that_fails_holds_a_prefix(rt: HostRuntime) -> Result<(), Fail> {
     let alloc = rt.alloc();
     let failing = vec![in alloc; PushFault { call: 2, after: 4 }]?;
-    let run = answer_to(alloc, &["replay", "s"], THREE_EQUAL, failing)?;
+    let run = answer_to(alloc, &["replay", "s"], &[("s", THREE_EQUAL)], failing)?;
     assert_eq!(rt;
         run.text.as_str(),
         "1 to 0 67657420610a\n1 to 1 67657420610a\n1 to"

@@ -110,7 +110,12 @@ fn settings_of(alloc: Global, text: &[u8]) -> Result<Settings, Refusal>
 }
 
 /// The script that the file of this name has, to be transcript_outcome under these limits.
-fn replay_file<F: Files>(alloc: Global, limits: Limits, name: &str, files: &mut F) -> Result<Work, Refusal>
+fn replay_file<F: Files>(
+    alloc: Global,
+    limits: Limits,
+    name: &str,
+    files: &mut F,
+) -> Result<Work, Refusal>
     requires { AreLimits limits }
     ensures ready { IfOk result IsReady }
     ensures work { IfOk result (λ work. (all : List NamedFile) → F.files files.old ≡ Some all → replay_under limits (file_of name.now all) ≡ work_outcome work) }

@@ -42,8 +42,8 @@ returns-clause-counts c =
     (record {
       events =
           elim c.if-is_live.branch [
-            then-is_live w ↦ w.result-is ∙ events_live rules (take place h) e c.ending.result c.with_sends-counts.result.events ending (c.is_none-is_live.ensures ∙ ap not w.if-is_live.true) kept
-          | else-is_live w ↦ w.result-is ∙ events_over rules (take place h) e c.ending.result c.with_sends-counts.result.events ending (c.is_none-is_live.ensures ∙ ap not w.if-is_live.false) kept
+            | then-is_live w ↦ w.result-is ∙ events_live rules (take place h) e c.ending.result c.with_sends-counts.result.events ending (c.is_none-is_live.ensures ∙ ap not w.if-is_live.true) kept
+            | else-is_live w ↦ w.result-is ∙ events_over rules (take place h) e c.ending.result c.with_sends-counts.result.events ending (c.is_none-is_live.ensures ∙ ap not w.if-is_live.false) kept
           ];
       to_client = c.with_sends-counts.ensures.to_client ∙ single_more rules (take place h) e c.in_ok-sends.sends more c.args.copies c.args.counts.to_client c.requires.copies c.requires.counts.to_client;
       to_instances = c.with_sends-counts.ensures.to_instances ∙ others_more rules (take place h) e c.in_ok-sends.sends more c.args.copies c.args.counts.to_instances c.requires.copies c.requires.counts.to_instances;
