@@ -48,7 +48,7 @@ pub fn answer_to(
 }
 
 /// What a replay of a script comes to.
-fn transcript_outcome(alloc: Global, script: &str) -> Result<Answer, Fail> {
+fn replayed(alloc: Global, script: &str) -> Result<Answer, Fail> {
     answer_to(alloc, &["replay", "s"], &[("s", script)], Vec::new(alloc))
 }
 
@@ -106,7 +106,7 @@ fn three_equal_replies_go_out_once(rt: HostRuntime) -> Result<(), Fail> {
     for (more, last, status) in cases {
         let script = format!(in alloc; "{THREE_EQUAL}{more}")?;
         let want = format!(in alloc; "{REQUESTS}4 to 3 6f6b20310a\n{last}")?;
-        let run = transcript_outcome(alloc, script.as_str())?;
+        let run = replayed(alloc, script.as_str())?;
         assert_eq!(rt; run.text.as_str(), want.as_str());
         assert_eq!(rt; run.status, status);
     }
@@ -171,7 +171,7 @@ fn replies_agree_or_end_the_session(rt: HostRuntime) -> Result<(), Fail> {
             want.push_str(transcript_of(alloc, &[(4, 3, first)], "")?.as_str())?;
         }
         want.push_str(last)?;
-        let run = transcript_outcome(alloc, script.as_str())?;
+        let run = replayed(alloc, script.as_str())?;
         assert_eq!(rt; run.text.as_str(), want.as_str());
         assert_eq!(rt; run.status, status);
     }
@@ -211,7 +211,7 @@ fn masks_64_words_and_no_more(rt: HostRuntime) -> Result<(), Fail> {
             want.push_str(transcript_of(alloc, &[(4, 3, first.as_str())], "")?.as_str())?;
         }
         want.push_str(last)?;
-        let run = transcript_outcome(alloc, script.as_str())?;
+        let run = replayed(alloc, script.as_str())?;
         assert_eq!(rt; run.text.as_str(), want.as_str());
         assert_eq!(rt; run.status, status);
     }
@@ -251,7 +251,7 @@ fn a_shown_word_is_swapped_for_each_copy(rt: HostRuntime) -> Result<(), Fail> {
         (14, 3, "2 1495354192 0000001495354192\n"),
     ];
     let want = transcript_of(alloc, &sends, "end Done\n")?;
-    let run = transcript_outcome(alloc, script.as_str())?;
+    let run = replayed(alloc, script.as_str())?;
     assert_eq!(rt; run.text.as_str(), want.as_str());
     assert_eq!(rt; run.status, 0);
     Ok(())
@@ -268,7 +268,7 @@ fn short_scripts_and_bad_ones(rt: HostRuntime) -> Result<(), Fail> {
         (seventh.as_str(), "script: BadLine 7\n", 3),
     ];
     for (script, text, status) in cases {
-        let run = transcript_outcome(alloc, script)?;
+        let run = replayed(alloc, script)?;
         assert_eq!(rt; run.text.as_str(), text);
         assert_eq!(rt; run.status, status);
     }
@@ -292,7 +292,7 @@ fn clocks_faults_and_stops(rt: HostRuntime) -> Result<(), Fail> {
         ("0 writefail 2\n0 stop\n", "end LinkFault link 2\n", 1),
     ] {
         let script = format!(in alloc; "side incoming\n{lines}")?;
-        let run = transcript_outcome(alloc, script.as_str())?;
+        let run = replayed(alloc, script.as_str())?;
         assert_eq!(rt; run.text.as_str(), text);
         assert_eq!(rt; run.status, status);
     }
@@ -305,7 +305,7 @@ fn a_late_reply(rt: HostRuntime) -> Result<(), Fail> {
     let alloc = rt.alloc();
     let script = "side incoming\n100 piece 3 67657420610a\n5099 timer\n5100 timer\n";
     let want = format!(in alloc; "{REQUESTS}end Late Gather\n")?;
-    let run = transcript_outcome(alloc, script)?;
+    let run = replayed(alloc, script)?;
     assert_eq!(rt; run.text.as_str(), want.as_str());
     assert_eq!(rt; run.status, 1);
     Ok(())
@@ -323,7 +323,7 @@ fn callers_that_end_and_callers_that_are_late(rt: HostRuntime) -> Result<(), Fai
         (later.as_str(), "end Late Gather\n", 1),
     ] {
         let script = format!(in alloc; "side outgoing\n{lines}")?;
-        let run = transcript_outcome(alloc, script.as_str())?;
+        let run = replayed(alloc, script.as_str())?;
         assert_eq!(rt; run.text.as_str(), text);
         assert_eq!(rt; run.status, status);
     }
@@ -358,7 +358,7 @@ fn merged_calls(rt: HostRuntime) -> Result<(), Fail> {
         [0, 0, 0, 1, 1, 1, 1, 2, 2, 2, 2, 0],
     ] {
         let script = calls_in_order(alloc, &order)?;
-        let run = transcript_outcome(alloc, script.as_str())?;
+        let run = replayed(alloc, script.as_str())?;
         assert_eq!(rt;
             run.text.as_str(),
             "12 to 3 7120310a\n14 to 0 720a\n14 to 1 720a\n14 to 2 720a\nlive\n"
@@ -399,7 +399,7 @@ fn a_disagreement_ends_a_session_early(rt: HostRuntime) -> Result<(), Fail> {
         let mut script = script_of(alloc, pieces.as_slice())?;
         script.push_str(more)?;
         let want = format!(in alloc; "{REQUESTS}{last}")?;
-        let run = transcript_outcome(alloc, script.as_str())?;
+        let run = replayed(alloc, script.as_str())?;
         assert_eq!(rt; run.text.as_str(), want.as_str());
         assert_eq!(rt; run.status, status);
     }
@@ -411,7 +411,7 @@ fn calls_that_differ_end_a_session_early(rt: HostRuntime) -> Result<(), Fail> {
     let alloc = rt.alloc();
     let pieces = [(0, "q 1\n"), (1, "q 1\n"), (2, "r ")];
     let script = script_on(alloc, "outgoing", &pieces)?;
-    let run = transcript_outcome(alloc, script.as_str())?;
+    let run = replayed(alloc, script.as_str())?;
     assert_eq!(rt;
         run.text.as_str(),
         "end Disagree exchange 1 copy 2 place 0\n"
@@ -438,7 +438,7 @@ fn rows_told_to_a_request(rt: HostRuntime) -> Result<(), Fail> {
         (two.as_str(), "script: BadLine 2\n", 3),
         (last.as_str(), "script: BadLine 3\n", 3),
     ] {
-        let run = transcript_outcome(alloc, script)?;
+        let run = replayed(alloc, script)?;
         assert_eq!(rt; run.text.as_str(), text);
         assert_eq!(rt; run.status, status);
     }
@@ -465,12 +465,12 @@ fn a_word_of_15_bytes_is_not_swapped(rt: HostRuntime) -> Result<(), Fail> {
     let script = script_of(alloc, &pieces)?;
     let after = transcript_of(alloc, &sends, "live\n")?;
     let want = format!(in alloc; "{REQUESTS}{after}")?;
-    let run = transcript_outcome(alloc, script.as_str())?;
+    let run = replayed(alloc, script.as_str())?;
     assert_eq!(rt; run.text.as_str(), want.as_str());
     Ok(())
 }
 
-pub const USAGE: &str =
+const USAGE: &str =
     "usage: rddr check SETTINGS\n       rddr replay SCRIPT\n       rddr replay SETTINGS SCRIPT\n       rddr gen SETTINGS NUMBER\n       rddr run SETTINGS\n";
 
 #[test]

@@ -24,7 +24,7 @@ const MOST_SCRIPT_BYTES: usize = 67_108_864;
 pub enum Work {
     /// The settings are in order.
     Check,
-    /// A script is to be transcript_outcome.
+    /// A script is to be replayed.
     Replay { limits: Limits, script: Script },
     /// A script of so many exchanges is to be made and run.
     Generate { limits: Limits, number: u16 },
@@ -109,7 +109,7 @@ fn settings_of(alloc: Global, text: &[u8]) -> Result<Settings, Refusal>
     Ok(read_settings(alloc, text)?)
 }
 
-/// The script that the file of this name has, to be transcript_outcome under these limits.
+/// The script that the file of this name has, to be replayed under these limits.
 fn replay_file<F: Files>(
     alloc: Global,
     limits: Limits,
