@@ -4,6 +4,7 @@ ghost use Rattle.rd_base.specs.declared.sends.Send.{Send};
 ghost use Rattle.rd_base.specs.Sent.{send_of, sends_to};
 ghost use Rattle.rd_base.specs.Swap.{shows};
 ghost use Rattle.rd_base.specs.OwnRows.{learn_row, shown_of};
+ghost use Rattle.rd_rules.specs.Exchange.{out_list};
 ghost use Rattle.rd_rules.specs.Given.{forwarded, handed_back, asks_on, releases, learnt};
 ghost use Rattle.rd_reading.specs.Whole.{IsAsked, IsDone};
 ghost use Rattle.rd_core.specs.Stages.{HasAsked};
@@ -126,6 +127,16 @@ pub(crate) fn after_rows(
     Ok(later)
 }
 
+/// Whether a reading has no request but one that was out before.
+fn releases_nothing(was_out: bool, reading: &Reading) -> bool
+    ensures { result ≡ true → length reading.now.done.items + length (out_list (option_map seen_request reading.now.out)) ≤ sent_before was_out }
+{
+    match &reading.out {
+        None => reading.done.is_empty() || (was_out && reading.done.len() == 1),
+        Some(_) => was_out && reading.done.is_empty(),
+    }
+}
+
 /// The requests of a reading as a link that answers is given them, joined. The first was sent before where
 /// one was out.
 fn requests_for<D: Dialect>(
@@ -144,6 +155,9 @@ fn requests_for<D: Dialect>(
     ensures { IfOk result (λ b. b ≡ flat_map (forwarded (rules_of (D.grammar dialect.now) setup.now) link told.now)
         (drop (sent_before was_out) (releases (rules_of (D.grammar dialect.now) setup.now) own.now (map seen_exchange reading.now.done.items) (option_map seen_request reading.now.out)))) }
 {
+    if releases_nothing(was_out, reading) {
+        return Ok(Bytes::new(alloc));
+    }
     let mut bytes = Bytes::new(alloc);
     let mut later = None;
     let mut skips = was_out;
