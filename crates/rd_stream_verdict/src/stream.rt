@@ -185,6 +185,11 @@ impl StreamVerdict {
         ensures ok { OnOk result (HasHeard at token.entry self.old self.new) }
         ensures err { OnErr result (self.new ≡ self.old) }
     {
+        if self.copies.are_same_with(at, &token) {
+            self.copies.pass_all();
+            self.copies.count(at);
+            return Ok(());
+        }
         let place = self.copies.fed(at);
         let masked = masked_places(&self.found);
         match self.copies.judge_with(at, token, self.most, place, masked) {

@@ -1,0 +1,19 @@
+use Rattle.std.proofs.Common.{length, List, ap, subst, arith, ◌<◌, ◌≡◌}
+use Rattle.std.specs.Prelude.{slice_get, IfSome}
+use Rattle.rd_stream_verdict.specs.Kept.{CopyKept}
+use Rattle.rd_stream_verdict.proofs.Sharing.{length-sharing, some_fed}
+use Rattle.rd_stream_verdict.proofs.buffers.Buffers.fed.Goals as goal
+
+pub index-requires : goal.index-requires
+index-requires c =
+    let items = c.self.inside.kept.items in
+    let size = length-sharing c.self.inside.sharers c.self.inside.shared items in
+    omega (arith, c.requires, ap length c.self.view_is, size)
+
+pub returns : goal.returns
+returns c =
+    let items = c.self.inside.kept.items in
+    let size = length-sharing c.self.inside.sharers c.self.inside.shared items in
+    let there : c.args.copy < length items = omega (arith, c.requires, ap length c.self.view_is, size) in
+    let P : List CopyKept → Type 0 = λ xs. IfSome (slice_get xs c.args.copy) (λ d. c.fed.result ≡ d.fed) in
+    subst P c.self.view_is (some_fed c.self.inside.sharers c.self.inside.shared c.args.copy items c.index.result.now c.fed.result there c.index.ensures c.fed.ensures)
