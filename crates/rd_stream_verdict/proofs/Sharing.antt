@@ -60,12 +60,12 @@ at_kept n t k cs c P lt is p = go k cs lt is (fed_kept n t k cs P p)
     go zero (x ∷ cs) lt is p = let Q : CopyKept → Type 0 = λ d. P d.fed d.is_whole in subst Q (sym is) p
     go (suc k) (x ∷ cs) lt is p = go k cs (omega arith) is p
 
-pub some_fed : (n : ℕ) (t : Token) (k : ℕ) (cs : List CopyKept) (c : CopyKept) (r : ℕ) → k < length cs → c ≡ get_or cs k c → r ≡ c.fed → IfSome (slice_get (sharing n t cs) k) (λ d. r ≡ d.fed)
-some_fed n t k cs c r lt is e = fed_sharing n t k cs (λ f w. r ≡ f) (go k cs lt is)
+pub some_kept : (n : ℕ) (t : Token) (k : ℕ) (cs : List CopyKept) (c : CopyKept) (P : ℕ → Bool → Type 0) → k < length cs → c ≡ get_or cs k c → P c.fed c.is_whole → IfSome (slice_get (sharing n t cs) k) (λ d. P d.fed d.is_whole)
+some_kept n t k cs c P lt is p = fed_sharing n t k cs P (go k cs lt is)
   where
-    go : (k : ℕ) (cs : List CopyKept) → k < length cs → c ≡ get_or cs k c → IfSome (slice_get cs k) (λ d. r ≡ d.fed)
+    go : (k : ℕ) (cs : List CopyKept) → k < length cs → c ≡ get_or cs k c → IfSome (slice_get cs k) (λ d. P d.fed d.is_whole)
     go k [] lt is = absurd (omega arith)
-    go zero (x ∷ cs) lt is = e ∙ ap (λ (d : CopyKept). d.fed) is
+    go zero (x ∷ cs) lt is = let Q : CopyKept → Type 0 = λ d. P d.fed d.is_whole in subst Q is p
     go (suc k) (x ∷ cs) lt is = go k cs (omega arith) is
 
 -- ---- bytes

@@ -1,5 +1,6 @@
 ghost use Rattle.std.specs.Prelude.{◌≡◌, ◌≤◌, ◌<◌, ◌-◌, ◌+◌, ◌^◌, ◌↔◌, [], length, map, replicate, slice_get, slice_index_or, Some, None, false, true, IsTrue, IfOk, IfSome, OnOk, OnErr};
 ghost use Rattle.std.specs.List.{list_all};
+ghost use Rattle.rd_base.specs.Token.{token};
 ghost use Rattle.rd_stream_verdict.specs.Said.{at_place};
 ghost use Rattle.rd_stream_verdict.specs.Kept.{waiting_bytes};
 ghost use Rattle.rd_stream_verdict.specs.Sharing.{all_behind};
@@ -10,7 +11,7 @@ use crate::heads::heads_with;
 use crate::judging::{Judged, alone_fault_of, judge_heads};
 use crate::shared::SharedToken;
 use crate::token::TokenRef;
-use rd_base::{MaskLimits, NoMemory, Verdict};
+use rd_base::{MaskLimits, NoMemory, TokenKind, Verdict};
 use std::alloc::Global;
 use std::marker::Model;
 
@@ -68,16 +69,16 @@ impl Buffers {
     }
 
     /// Whether the copy is there and may have more tokens.
-    #[cfg(test)]
     pub(crate) fn can_take(&self, copy: usize) -> bool
         ensures there { result ≡ true → copy < length self.now }
         ensures open { result ≡ true → IfSome (slice_get self.now copy) (λ c. c.is_whole ≡ false) }
         ensures fewer { result ≡ true → IfSome (slice_get self.now copy) (λ c. c.fed < 2 ^ 32 - 1) }
     {
-        match self.kept.as_slice().get(copy) {
-            Some(kept) => !kept.is_whole() && kept.fed() < u32::MAX,
-            None => false,
+        if copy >= self.kept.len() {
+            return false;
         }
+        let kept = &self.kept[copy];
+        !kept.is_whole() && kept.fed() < u32::MAX
     }
 
     /// The bytes of the copy's tokens that wait.
@@ -102,13 +103,25 @@ impl Buffers {
     }
 
     /// Whether this copy is behind, and no other one.
+    #[inline(always)]
     pub(crate) fn is_only_behind(&self, copy: usize) -> bool
         requires { copy < length self.now }
         ensures { result ≡ only_behind copy self.now }
     {
         if self.only_shared {
             is_last(copy, self.sharers, self.kept.len())
-        } else if copy < self.sharers {
+        } else {
+            self.is_only_behind_by_copies(copy)
+        }
+    }
+
+    /// The same, by what is kept of each copy. It stands apart, so that what runs in turn stays small.
+    #[inline(never)]
+    fn is_only_behind_by_copies(&self, copy: usize) -> bool
+        requires { copy < length self.now }
+        ensures { result ≡ only_behind copy self.now }
+    {
+        if copy < self.sharers {
             false
         } else {
             is_only_behind(&self.kept.as_slice()[self.sharers..], copy - self.sharers)
@@ -165,6 +178,7 @@ impl Buffers {
     }
 
     /// Lets a token of one copy wait.
+    #[inline(always)]
     pub(crate) fn wait(&mut self, copy: usize, token: &TokenRef) -> Result<(), NoMemory>
         requires there { copy < length self.old }
         requires fewer { IfSome (slice_get self.old copy) (λ c. c.fed < 2 ^ 32 - 1) }
@@ -184,17 +198,18 @@ impl Buffers {
                 return Ok(());
             }
         }
-        self.wait_apart(copy, token)
+        self.wait_apart(copy, token.kind, token.text)
     }
 
-    /// Lets a token of one copy wait that isn't shared.
-    fn wait_apart(&mut self, copy: usize, token: &TokenRef) -> Result<(), NoMemory>
+    /// Lets a token of one copy wait that isn't shared. It stands apart, so that what runs in turn stays small.
+    #[inline(never)]
+    fn wait_apart(&mut self, copy: usize, kind: TokenKind, text: &[u8]) -> Result<(), NoMemory>
         requires there { copy < length self.old }
         requires fewer { IfSome (slice_get self.old copy) (λ c. c.fed < 2 ^ 32 - 1) }
-        ensures ok { OnOk result (self.new ≡ at_place (waits token.now) copy self.old) }
+        ensures ok { OnOk result (self.new ≡ at_place (waits (token kind text.now)) copy self.old) }
         ensures err { OnErr result (self.new ≡ self.old) }
     {
-        self.kept[copy].wait(token)?;
+        self.kept[copy].wait(&TokenRef::new(kind, text))?;
         self.only_shared = false;
         Ok(())
     }
@@ -208,13 +223,22 @@ impl Buffers {
     }
 
     /// A place was judged: each copy's first token that waits is dropped.
+    #[inline(always)]
     pub(crate) fn pass_all(&mut self)
         ensures { self.new ≡ map passed self.old }
     {
         if self.only_shared {
             self.sharers = 0;
-            return;
+        } else {
+            self.pass_by_copies();
         }
+    }
+
+    /// The same, by what is kept of each copy. It stands apart, so that what runs in turn stays small.
+    #[inline(never)]
+    fn pass_by_copies(&mut self)
+        ensures { self.new ≡ map passed self.old }
+    {
         pass_each(&mut self.kept.as_mut_slice()[self.sharers..]);
         self.only_shared = are_all_behind(self.kept.as_slice());
         self.sharers = 0;

@@ -34,7 +34,7 @@ impl SharedToken {
     }
 
     /// Makes it this token. After an answer of want of memory it is some token.
-    #[inline(always)]
+    #[inline(never)]
     pub(crate) fn set(&mut self, token: &TokenRef) -> Result<(), NoMemory>
         ensures { OnOk result (self.new ≡ token.now) }
     {

@@ -32,8 +32,9 @@ returns-clause-ok c =
     let t = c.self.inside.shared in
     let size = length-sharing n t items in
     let there : c.args.copy < length items = omega (arith, c.requires.there, ap length c.self.view_is, size) in
-    let change = waits c.args.token.now in
+    let change = waits c.new.result in
     ap (λ x. sharing n t (set items c.args.copy x)) c.in_ok-wait.ensures.ok
     ∙ ap (sharing n t) (set_place change c.args.copy items c.index_mut.result.now there c.index_mut.ensures.value)
-    ∙ wait_sharing n t c.args.token.now c.args.copy items
+    ∙ wait_sharing n t c.new.result c.args.copy items
     ∙ ap (at_place change c.args.copy) c.self.view_is
+    ∙ ap (λ u. at_place (waits u) c.args.copy c.args.self.now) c.new.ensures
