@@ -167,6 +167,7 @@ fn token_of<'a>(text: &'a [u8], span: &TokenSpan) -> Result<&'a [u8], NoMemory> 
     Ok(&text[start..end])
 }
 
+#[inline(always)]
 fn feed_token(verdict: &mut StreamVerdict, copy: u8, kind: TokenKind, token: &[u8]) -> Result<(), NoMemory> {
     if !(verdict.can_take(copy)) {
         return Err(NoMemory);

@@ -187,7 +187,7 @@ impl Buffers {
     {
         if self.only_shared && copy == self.sharers {
             if copy == 0 {
-                self.shared.set(token)?;
+                self.shared.set(token.kind, token.text)?;
                 self.sharers = 1;
                 self.kept[copy].count();
                 return Ok(());

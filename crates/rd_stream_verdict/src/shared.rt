@@ -1,4 +1,5 @@
 ghost use Rattle.std.specs.Prelude.{◌≡◌, ◌≤◌, ◌^◌, length, OnOk};
+ghost use Rattle.rd_base.specs.Token.{token};
 ghost use Rattle.rd_base.specs.Verdicts.{same_token};
 
 use crate::token::TokenRef;
@@ -33,17 +34,17 @@ impl SharedToken {
         }
     }
 
-    /// Makes it this token. After an answer of want of memory it is some token.
+    /// Makes it the token of this kind and these bytes. After an answer of want of memory it is some token.
     #[inline(never)]
-    pub(crate) fn set(&mut self, token: &TokenRef) -> Result<(), NoMemory>
-        ensures { OnOk result (self.new ≡ token.now) }
+    pub(crate) fn set(&mut self, kind: TokenKind, text: &[u8]) -> Result<(), NoMemory>
+        ensures { OnOk result (self.new ≡ token kind text.now) }
     {
-        if token.text.len() > 1 << 62 {
+        if text.len() > 1 << 62 {
             return Err(NoMemory);
         }
-        self.kind = token.kind;
+        self.kind = kind;
         self.text.clear();
-        match self.text.extend_from_slice(token.text) {
+        match self.text.extend_from_slice(text) {
             Ok(()) => Ok(()),
             Err(_) => Err(NoMemory),
         }

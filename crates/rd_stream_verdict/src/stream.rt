@@ -60,7 +60,7 @@ impl StreamVerdict {
     /// The next token of a copy: its kind and its bytes.
     ///
     /// After an answer of want of memory all is as before.
-    #[inline]
+    #[inline(always)]
     pub fn feed(&mut self, copy: u8, kind: TokenKind, text: &[u8]) -> Result<(), NoMemory>
         requires there { copy < length self.old.copies }
         requires open { IfSome (slice_get self.old.copies copy) (λ c. c.is_whole ≡ false) }
