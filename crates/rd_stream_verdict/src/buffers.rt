@@ -68,7 +68,7 @@ impl Buffers {
         self.kept[copy].fed()
     }
 
-    /// Whether the copy is there and may have more tokens.
+    /// Whether the copy is there and may have more tokens: true only if so.
     pub(crate) fn can_take(&self, copy: usize) -> bool
         ensures there { result ≡ true → copy < length self.now }
         ensures open { result ≡ true → IfSome (slice_get self.now copy) (λ c. c.is_whole ≡ false) }

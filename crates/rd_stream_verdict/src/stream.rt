@@ -59,7 +59,8 @@ impl StreamVerdict {
 
     /// The next token of a copy: its kind and its bytes.
     ///
-    /// After an answer of want of memory all is as before.
+    /// It is quickest where copies are fed the same tokens in turn, from copy 0 on: then each is compared with copy 0's,
+    /// and nothing is allocated once a token as long was there. After an answer of want of memory all is as before.
     #[inline(always)]
     pub fn feed(&mut self, copy: u8, kind: TokenKind, text: &[u8]) -> Result<(), NoMemory>
         requires there { copy < length self.old.copies }
@@ -104,7 +105,7 @@ impl StreamVerdict {
     }
 
     /// The number of bytes kept of a copy: those of its tokens that wait to be judged, and at most 8,192 of masked
-    /// tokens.
+    /// tokens. A token that waits once for several copies counts as kept of each.
     pub fn kept(&self, copy: u8) -> usize
         requires { copy < length self.now.copies }
         ensures bytes { result ≡ kept_bytes copy self.now }
@@ -146,7 +147,7 @@ impl StreamVerdict {
         }
     }
 
-    /// Whether the copy is there and may have more tokens.
+    /// Whether the copy is there and may have more tokens: true only if so.
     pub fn can_take(&self, copy: u8) -> bool
         ensures there { result ≡ true → copy < length self.now.copies }
         ensures open { result ≡ true → IfSome (slice_get self.now.copies copy) (λ c. c.is_whole ≡ false) }

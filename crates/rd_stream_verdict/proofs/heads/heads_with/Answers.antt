@@ -1,4 +1,4 @@
-use Rattle.std.proofs.Common.{◌≡◌, ◌-◌, ap, sym, ◌∙◌, arith, length, set, take, drop, length-set, length-drop}
+use Rattle.std.proofs.Common.{◌≡◌, ap, ◌∙◌, arith, length, set, length-set, length-drop}
 use Rattle.std.specs.Prelude.{slice_get}
 use Rattle.std.proofs.lemmas.List.{take_rest, length-map}
 use Rattle.rd_stream_verdict.specs.Kept.{CopyKept}

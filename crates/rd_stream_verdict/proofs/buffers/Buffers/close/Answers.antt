@@ -1,9 +1,9 @@
-use Rattle.std.proofs.Common.{◌≡◌, ◌<◌, ◌-◌, ◌^◌, length, set, List, ap, sym, subst, ◌∙◌, arith}
+use Rattle.std.proofs.Common.{◌<◌, length, set, ap, ◌∙◌, arith}
 use Rattle.rd_stream_verdict.specs.Said.{at_place}
 use Rattle.rd_stream_verdict.specs.Sharing.{sharing}
 use Rattle.rd_stream_verdict.specs.Heads.{closed}
-use Rattle.rd_stream_verdict.proofs.KeptCopies.{set_place, length-place}
-use Rattle.rd_stream_verdict.proofs.Sharing.{length-sharing, at_kept, close_sharing, behind_counted}
+use Rattle.rd_stream_verdict.proofs.KeptCopies.{set_place}
+use Rattle.rd_stream_verdict.proofs.Sharing.{length-sharing, close_sharing}
 use Rattle.rd_stream_verdict.proofs.buffers.Buffers.close.Goals as goal
 
 pub index_mut-requires : goal.index_mut-requires

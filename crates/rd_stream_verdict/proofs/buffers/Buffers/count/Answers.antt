@@ -1,4 +1,4 @@
-use Rattle.std.proofs.Common.{ℕ, Bool, ◌≡◌, ◌<◌, ◌-◌, ◌^◌, length, set, List, ap, sym, subst, ◌∙◌, arith}
+use Rattle.std.proofs.Common.{ℕ, Bool, ◌<◌, ◌-◌, ◌^◌, length, set, List, ap, sym, subst, ◌∙◌, arith}
 use Rattle.rd_stream_verdict.specs.Said.{at_place}
 use Rattle.rd_stream_verdict.specs.Sharing.{sharing, IsShared}
 use Rattle.std.specs.Prelude.{slice_get, IfSome}

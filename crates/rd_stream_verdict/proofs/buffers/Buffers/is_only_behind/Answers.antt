@@ -1,7 +1,6 @@
-use Rattle.std.proofs.Common.{◌≡◌, ◌-◌, ◌+◌, true, length, ap, sym, ◌∙◌, arith, drop, take, length-drop, length-take}
-use Rattle.std.proofs.lemmas.List.{take_all, take_rest}
+use Rattle.std.proofs.Common.{length, ap, ◌∙◌, arith}
 use Rattle.rd_stream_verdict.specs.Heads.{only_behind}
-use Rattle.rd_stream_verdict.proofs.Sharing.{length-sharing, last_is, only_sharer, only_past}
+use Rattle.rd_stream_verdict.proofs.Sharing.{length-sharing, last_is}
 use Rattle.rd_stream_verdict.proofs.buffers.Buffers.is_only_behind.Goals as goal
 
 pub is_last-requires : goal.is_last-requires
@@ -19,4 +18,3 @@ returns-then-self c =
     (λ e. let both = c.is_last.ensures.0 e in (both.0, omega (arith, both.1, c.len.ensures)))
     (λ both. c.is_last.ensures.1 (both.0, omega (arith, both.1, c.len.ensures)))
     ∙ ap (only_behind c.args.copy) c.self.view_is
-

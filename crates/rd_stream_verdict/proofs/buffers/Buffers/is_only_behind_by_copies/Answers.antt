@@ -1,7 +1,7 @@
-use Rattle.std.proofs.Common.{◌≡◌, ◌-◌, ◌+◌, true, length, ap, sym, ◌∙◌, arith, drop, take, length-drop, length-take}
-use Rattle.std.proofs.lemmas.List.{take_all, take_rest}
+use Rattle.std.proofs.Common.{◌-◌, length, ap, sym, ◌∙◌, arith, drop, length-drop}
+use Rattle.std.proofs.lemmas.List.{take_rest}
 use Rattle.rd_stream_verdict.specs.Heads.{only_behind}
-use Rattle.rd_stream_verdict.proofs.Sharing.{length-sharing, last_is, only_sharer, only_past}
+use Rattle.rd_stream_verdict.proofs.Sharing.{length-sharing, only_sharer, only_past}
 use Rattle.rd_stream_verdict.proofs.buffers.Buffers.is_only_behind_by_copies.Goals as goal
 
 pub is_only_behind-requires : goal.is_only_behind-requires

@@ -1,7 +1,7 @@
 use Rattle.std.proofs.lemmas.List.{drop_all}
-use Rattle.std.proofs.Common.{◌≡◌, ◌++◌, ◌+◌, ◌-◌, [], length, map, take, drop, ap, sym, ◌∙◌, arith, length-drop}
+use Rattle.std.proofs.Common.{◌≡◌, ◌++◌, ◌-◌, [], length, map, take, drop, ap, ◌∙◌, arith, length-drop}
 use Rattle.rd_stream_verdict.specs.Heads.{passed}
-use Rattle.rd_stream_verdict.proofs.Sharing.{pass_shared, pass_sharing, refill_all, rest_changed, rest_size}
+use Rattle.rd_stream_verdict.proofs.Sharing.{pass_sharing, refill_all, rest_changed, rest_size}
 use Rattle.rd_stream_verdict.proofs.buffers.Buffers.pass_by_copies.Goals as goal
 
 pub returns : goal.returns

@@ -1,6 +1,5 @@
-use Rattle.std.proofs.Common.{◌≡◌, ◌<◌, ◌+◌, ◌-◌, ◌^◌, suc, ℕ, Bool, length, set, List, ap, sym, subst, ◌∙◌, arith, add-one}
+use Rattle.std.proofs.Common.{◌<◌, ◌+◌, ◌-◌, ◌^◌, ℕ, Bool, length, set, List, ap, sym, subst, ◌∙◌, arith}
 use Rattle.std.specs.Prelude.{slice_get, IfSome}
-use Rattle.rd_base.specs.Token.{Token}
 use Rattle.rd_stream_verdict.specs.Said.{at_place}
 use Rattle.rd_stream_verdict.specs.Kept.{CopyKept}
 use Rattle.rd_stream_verdict.specs.Sharing.{sharing, IsShared}

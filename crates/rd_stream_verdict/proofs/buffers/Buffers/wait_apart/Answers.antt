@@ -1,10 +1,10 @@
-use Rattle.std.proofs.Common.{◌≡◌, ◌<◌, ◌-◌, ◌^◌, ℕ, Bool, length, set, List, ap, sym, subst, ◌∙◌, arith}
+use Rattle.std.proofs.Common.{◌<◌, ◌-◌, ◌^◌, ℕ, Bool, length, set, List, ap, sym, subst, ◌∙◌, arith}
 use Rattle.rd_stream_verdict.specs.Said.{at_place}
 use Rattle.rd_stream_verdict.specs.Sharing.{sharing}
 use Rattle.rd_stream_verdict.specs.Heads.{waits}
 use Rattle.std.specs.Prelude.{slice_get, IfSome}
 use Rattle.rd_stream_verdict.specs.Kept.{CopyKept}
-use Rattle.rd_stream_verdict.proofs.KeptCopies.{set_place, length-place}
+use Rattle.rd_stream_verdict.proofs.KeptCopies.{set_place}
 use Rattle.rd_stream_verdict.proofs.Sharing.{length-sharing, at_kept, wait_sharing}
 use Rattle.rd_stream_verdict.proofs.buffers.Buffers.wait_apart.Goals as goal
 

@@ -31,4 +31,3 @@ returns-then-are_same_with-clause-ok c =
     let heard : HasHeard c.args.at c.args.token seen new = same_by seen c.args.at fed.0 (length (mask_of seen.found)) c.args.token c.pass_all.new.self c.count.new.self asked fed.1 refl same c.pass_all.ensures c.count.ensures in
     let P : Kept → Type 0 = λ old. HasHeard c.args.at c.args.token old new in
     subst P c.self.view_is heard
-
