@@ -14,3 +14,5 @@ pub mod Masked
 pub mod Asked
 pub mod Answered
 pub mod KeptBytes
+pub mod Sharing
+pub mod AllSame

@@ -1,21 +1,31 @@
-ghost use Rattle.std.specs.Prelude.{◌≡◌, ◌≤◌, ◌<◌, ◌-◌, ◌^◌, [], length, map, replicate, slice_get, slice_index_or, Some, None, false, true, IfOk, IfSome, OnOk, OnErr};
+ghost use Rattle.std.specs.Prelude.{◌≡◌, ◌≤◌, ◌<◌, ◌-◌, ◌+◌, ◌^◌, ◌↔◌, [], length, map, replicate, slice_get, slice_index_or, Some, None, false, true, IsTrue, IfOk, IfSome, OnOk, OnErr};
 ghost use Rattle.std.specs.List.{list_all};
+ghost use Rattle.rd_base.specs.Token.{token};
 ghost use Rattle.rd_stream_verdict.specs.Said.{at_place};
 ghost use Rattle.rd_stream_verdict.specs.Kept.{waiting_bytes};
+ghost use Rattle.rd_stream_verdict.specs.Sharing.{all_behind};
 ghost use Rattle.rd_stream_verdict.specs.Heads.{none_behind, only_behind, counted, waits, closed, passed, cleared, heads_with, heads_judged, heads_alone_fault};
 
 use crate::copy::CopyBuffer;
 use crate::heads::heads_with;
 use crate::judging::{Judged, alone_fault_of, judge_heads};
+use crate::shared::SharedToken;
 use crate::token::TokenRef;
-use rd_base::{MaskLimits, NoMemory, Verdict};
+use rd_base::{MaskLimits, NoMemory, TokenKind, Verdict};
 use std::alloc::Global;
 use std::marker::Model;
 
 /// What is kept of each copy.
+///
+/// Where copies are fed the same tokens in turn, a token waits once for all of them.
 #[derive(Drop)]
 pub(crate) struct Buffers {
     kept: Vec<CopyBuffer>,
+    /// The first token that waits of the first `sharers` copies. It is not among those that are kept of each.
+    shared: SharedToken,
+    sharers: usize,
+    /// No copy is closed, and of none another token waits.
+    only_shared: bool,
 }
 
 impl Model for Buffers {
@@ -24,7 +34,11 @@ impl Model for Buffers {
 
     ghost Value = { List CopyKept };
 
-    ghost view = { λ b. b.kept.items };
+    ghost use Rattle.rd_stream_verdict.specs.Sharing.{sharing, IsShared};
+
+    ghost view = { λ b. sharing b.sharers b.shared b.kept.items };
+
+    ghost invariant = { λ b. IsShared b.sharers b.only_shared b.kept.items };
 }
 
 impl Buffers {
@@ -38,7 +52,12 @@ impl Buffers {
                 return Err(NoMemory);
             }
         }
-        Ok(Buffers { kept })
+        Ok(Buffers {
+            kept,
+            shared: SharedToken::new(alloc),
+            sharers: 0,
+            only_shared: true,
+        })
     }
 
     /// The number of tokens that the copy was fed.
@@ -49,41 +68,73 @@ impl Buffers {
         self.kept[copy].fed()
     }
 
-    /// Whether the copy is there and may have more tokens.
-    #[cfg(test)]
+    /// Whether the copy is there and may have more tokens: true only if so.
     pub(crate) fn can_take(&self, copy: usize) -> bool
         ensures there { result ≡ true → copy < length self.now }
         ensures open { result ≡ true → IfSome (slice_get self.now copy) (λ c. c.is_whole ≡ false) }
         ensures fewer { result ≡ true → IfSome (slice_get self.now copy) (λ c. c.fed < 2 ^ 32 - 1) }
     {
-        match self.kept.as_slice().get(copy) {
-            Some(kept) => !kept.is_whole() && kept.fed() < u32::MAX,
-            None => false,
+        if copy >= self.kept.len() {
+            return false;
         }
+        let kept = &self.kept[copy];
+        !kept.is_whole() && kept.fed() < u32::MAX
     }
 
     /// The bytes of the copy's tokens that wait.
     pub(crate) fn bytes(&self, copy: usize) -> usize
         requires { copy < length self.now }
         ensures bytes { result ≡ waiting_bytes (slice_get self.now copy) }
-        ensures most { result < 2 ^ 63 }
+        ensures most { result < 2 ^ 63 + 2 ^ 62 }
     {
-        self.kept[copy].bytes()
+        let own = self.kept[copy].bytes();
+        if copy < self.sharers {
+            self.shared.bytes() + own
+        } else {
+            own
+        }
     }
 
     /// Whether all copies are closed.
     pub(crate) fn are_whole(&self) -> bool
         ensures { result ≡ list_all (λ c. c.is_whole) self.now }
     {
-        self.kept.iter().all(|copy| copy.is_whole())
+        are_all_whole(self.kept.as_slice())
     }
 
     /// Whether this copy is behind, and no other one.
+    #[inline(always)]
     pub(crate) fn is_only_behind(&self, copy: usize) -> bool
         requires { copy < length self.now }
         ensures { result ≡ only_behind copy self.now }
     {
-        is_only_behind(self.kept.as_slice(), copy)
+        if self.only_shared {
+            is_last(copy, self.sharers, self.kept.len())
+        } else {
+            self.is_only_behind_by_copies(copy)
+        }
+    }
+
+    /// The same, by what is kept of each copy. It stands apart, so that what runs in turn stays small.
+    #[inline(never)]
+    fn is_only_behind_by_copies(&self, copy: usize) -> bool
+        requires { copy < length self.now }
+        ensures { result ≡ only_behind copy self.now }
+    {
+        if copy < self.sharers {
+            false
+        } else {
+            is_only_behind(&self.kept.as_slice()[self.sharers..], copy - self.sharers)
+        }
+    }
+
+    /// Whether all copies have this token next, where this copy has it: true only if so.
+    #[inline(always)]
+    pub(crate) fn are_same_with(&self, copy: usize, token: &TokenRef) -> bool
+        requires { copy < length self.now }
+        ensures { result ≡ true → heads_with copy (Some token.now) self.now ≡ replicate (length self.now) (Some token.now) }
+    {
+        is_last(copy, self.sharers, self.kept.len()) && self.shared.is(token)
     }
 
     /// What a place comes to where one of the copies has this token, and below which so many places are masked.
@@ -100,7 +151,8 @@ impl Buffers {
         requires few { length self.now ≤ 8 }
         ensures { result ≡ heads_judged most place masked (heads_with copy (Some token.entry) self.now) }
     {
-        let heads = heads_with(self.kept.as_slice(), copy, Some(token));
+        let kept = self.kept.as_slice();
+        let heads = heads_with(kept, &self.shared, self.sharers, copy, Some(token));
         judge_heads(heads.as_slice(), most, place, masked)
     }
 
@@ -111,7 +163,8 @@ impl Buffers {
         requires few { length self.now ≤ 8 }
         ensures { result ≡ heads_alone_fault place (heads_with copy None self.now) }
     {
-        let heads = heads_with(self.kept.as_slice(), copy, None);
+        let kept = self.kept.as_slice();
+        let heads = heads_with(kept, &self.shared, self.sharers, copy, None);
         alone_fault_of(heads.as_slice(), place)
     }
 
@@ -125,13 +178,40 @@ impl Buffers {
     }
 
     /// Lets a token of one copy wait.
+    #[inline(always)]
     pub(crate) fn wait(&mut self, copy: usize, token: &TokenRef) -> Result<(), NoMemory>
         requires there { copy < length self.old }
         requires fewer { IfSome (slice_get self.old copy) (λ c. c.fed < 2 ^ 32 - 1) }
         ensures ok { OnOk result (self.new ≡ at_place (waits token.now) copy self.old) }
         ensures err { OnErr result (self.new ≡ self.old) }
     {
-        self.kept[copy].wait(token)
+        if self.only_shared && copy == self.sharers {
+            if copy == 0 {
+                self.shared.set(token.kind, token.text)?;
+                self.sharers = 1;
+                self.kept[copy].count();
+                return Ok(());
+            }
+            if self.shared.is(token) {
+                self.sharers = copy + 1;
+                self.kept[copy].count();
+                return Ok(());
+            }
+        }
+        self.wait_apart(copy, token.kind, token.text)
+    }
+
+    /// Lets a token of one copy wait that isn't shared. It stands apart, so that what runs in turn stays small.
+    #[inline(never)]
+    fn wait_apart(&mut self, copy: usize, kind: TokenKind, text: &[u8]) -> Result<(), NoMemory>
+        requires there { copy < length self.old }
+        requires fewer { IfSome (slice_get self.old copy) (λ c. c.fed < 2 ^ 32 - 1) }
+        ensures ok { OnOk result (self.new ≡ at_place (waits (token kind text.now)) copy self.old) }
+        ensures err { OnErr result (self.new ≡ self.old) }
+    {
+        self.kept[copy].wait(&TokenRef::new(kind, text))?;
+        self.only_shared = false;
+        Ok(())
     }
 
     pub(crate) fn close(&mut self, copy: usize)
@@ -139,15 +219,29 @@ impl Buffers {
         ensures { self.new ≡ at_place closed copy self.old }
     {
         self.kept[copy].close();
+        self.only_shared = false;
     }
 
     /// A place was judged: each copy's first token that waits is dropped.
+    #[inline(always)]
     pub(crate) fn pass_all(&mut self)
         ensures { self.new ≡ map passed self.old }
     {
-        for copy in self.kept.iter_mut() {
-            copy.pass();
+        if self.only_shared {
+            self.sharers = 0;
+        } else {
+            self.pass_by_copies();
         }
+    }
+
+    /// The same, by what is kept of each copy. It stands apart, so that what runs in turn stays small.
+    #[inline(never)]
+    fn pass_by_copies(&mut self)
+        ensures { self.new ≡ map passed self.old }
+    {
+        pass_each(&mut self.kept.as_mut_slice()[self.sharers..]);
+        self.only_shared = are_all_behind(self.kept.as_slice());
+        self.sharers = 0;
     }
 
     /// A fault was found: all tokens that wait are dropped.
@@ -157,6 +251,8 @@ impl Buffers {
         for copy in self.kept.iter_mut() {
             copy.clear();
         }
+        self.sharers = 0;
+        self.only_shared = false;
     }
 }
 
@@ -174,4 +270,34 @@ fn is_none_behind(copies: &[CopyBuffer]) -> bool
     ensures { result ≡ none_behind copies.now }
 {
     copies.iter().all(|copy| !copy.is_behind())
+}
+
+fn are_all_whole(copies: &[CopyBuffer]) -> bool
+    ensures { result ≡ list_all (λ c. c.is_whole) copies.now }
+{
+    copies.iter().all(|copy| copy.is_whole())
+}
+
+fn are_all_behind(copies: &[CopyBuffer]) -> bool
+    ensures { result ≡ all_behind copies.now }
+{
+    copies.iter().all(|copy| copy.is_behind())
+}
+
+/// Drops each copy's first token that waits.
+fn pass_each(copies: &mut [CopyBuffer])
+    ensures { copies.new ≡ map passed copies.old }
+{
+    for copy in copies.iter_mut() {
+        copy.pass();
+    }
+}
+
+/// Whether this copy is the next to share, and no other one is.
+#[inline(always)]
+fn is_last(copy: usize, sharers: usize, count: usize) -> bool
+    requires { copy < count }
+    ensures { IsTrue result ↔ (copy ≡ sharers × copy + 1 ≡ count) }
+{
+    copy == sharers && copy + 1 == count
 }

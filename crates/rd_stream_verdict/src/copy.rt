@@ -12,8 +12,8 @@ use std::marker::Model;
 #[derive(Drop)]
 pub(crate) struct CopyBuffer {
     fed: u32,
-    waiting: TokenQueue,
     is_whole: bool,
+    waiting: TokenQueue,
 }
 
 impl Model for CopyBuffer {

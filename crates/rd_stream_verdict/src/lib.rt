@@ -6,6 +6,7 @@ mod copy;
 mod heads;
 mod judging;
 mod queue;
+mod shared;
 mod stream;
 mod token;
 

@@ -59,7 +59,9 @@ impl StreamVerdict {
 
     /// The next token of a copy: its kind and its bytes.
     ///
-    /// After an answer of want of memory all is as before.
+    /// It is quickest where copies are fed the same tokens in turn, from copy 0 on: then each is compared with copy 0's,
+    /// and nothing is allocated once a token as long was there. After an answer of want of memory all is as before.
+    #[inline(always)]
     pub fn feed(&mut self, copy: u8, kind: TokenKind, text: &[u8]) -> Result<(), NoMemory>
         requires there { copy < length self.old.copies }
         requires open { IfSome (slice_get self.old.copies copy) (λ c. c.is_whole ≡ false) }
@@ -103,7 +105,7 @@ impl StreamVerdict {
     }
 
     /// The number of bytes kept of a copy: those of its tokens that wait to be judged, and at most 8,192 of masked
-    /// tokens.
+    /// tokens. A token that waits once for several copies counts as kept of each.
     pub fn kept(&self, copy: u8) -> usize
         requires { copy < length self.now.copies }
         ensures bytes { result ≡ kept_bytes copy self.now }
@@ -145,9 +147,8 @@ impl StreamVerdict {
         }
     }
 
-    /// Whether the copy is there and may have more tokens.
-    #[cfg(test)]
-    fn can_take(&self, copy: u8) -> bool
+    /// Whether the copy is there and may have more tokens: true only if so.
+    pub fn can_take(&self, copy: u8) -> bool
         ensures there { result ≡ true → copy < length self.now.copies }
         ensures open { result ≡ true → IfSome (slice_get self.now.copies copy) (λ c. c.is_whole ≡ false) }
         ensures fewer { result ≡ true → IfSome (slice_get self.now.copies copy) (λ c. c.fed < 2 ^ 32 - 1) }
@@ -176,6 +177,7 @@ impl StreamVerdict {
     }
 
     /// Judges the next place, at which this copy alone had no token.
+    #[inline(always)]
     fn judge_next(&mut self, at: usize, token: TokenRef) -> Result<(), NoMemory>
         requires there { at < length self.old.copies }
         requires open { IfSome (slice_get self.old.copies at) (λ c. c.is_whole ≡ false) }
@@ -185,6 +187,26 @@ impl StreamVerdict {
         ensures ok { OnOk result (HasHeard at token.entry self.old self.new) }
         ensures err { OnErr result (self.new ≡ self.old) }
     {
+        if self.copies.are_same_with(at, &token) {
+            self.copies.pass_all();
+            self.copies.count(at);
+            return Ok(());
+        }
+        self.judge_by_heads(at, token.kind, token.text)
+    }
+
+    /// The same, whatever the copies have there. It stands apart, since it makes room for a row on entry.
+    #[inline(never)]
+    fn judge_by_heads(&mut self, at: usize, kind: TokenKind, text: &[u8]) -> Result<(), NoMemory>
+        requires there { at < length self.old.copies }
+        requires open { IfSome (slice_get self.old.copies at) (λ c. c.is_whole ≡ false) }
+        requires fewer { IfSome (slice_get self.old.copies at) (λ c. c.fed < 2 ^ 32 - 1) }
+        requires agreed { is_agreed self.old.found ≡ true }
+        requires only { only_behind at self.old.copies ≡ true }
+        ensures ok { OnOk result (HasHeard at (token kind text.now) self.old self.new) }
+        ensures err { OnErr result (self.new ≡ self.old) }
+    {
+        let token = TokenRef::new(kind, text);
         let place = self.copies.fed(at);
         let masked = masked_places(&self.found);
         match self.copies.judge_with(at, token, self.most, place, masked) {
@@ -211,6 +233,7 @@ impl StreamVerdict {
     }
 }
 
+#[inline(always)]
 fn has_agreed(found: &Verdict) -> bool
     ensures { result ≡ is_agreed found.now }
 {

@@ -21,13 +21,15 @@ impl<'a> Model for TokenRef<'a> {
 }
 
 impl<'a> TokenRef<'a> {
+    #[inline(always)]
     pub(crate) fn new(kind: TokenKind, text: &'a [u8]) -> TokenRef<'a>
         ensures { result ≡ token kind text.now }
     {
         TokenRef { kind, text }
     }
 
-    fn is_same(&self, other: &TokenRef) -> bool
+    #[inline(always)]
+    pub(crate) fn is_same(&self, other: &TokenRef) -> bool
         ensures { result ≡ same_token self.now other.now }
     {
         self.kind == other.kind && is_same_text(self.kind, self.text, other.text)
@@ -35,6 +37,7 @@ impl<'a> TokenRef<'a> {
 }
 
 /// Whether two tokens of a kind count as the same bytes.
+#[inline(always)]
 fn is_same_text(kind: TokenKind, a: &[u8], b: &[u8]) -> bool
     ensures { result ≡ bytes_eq (text_of kind a.now) (text_of kind b.now) }
 {

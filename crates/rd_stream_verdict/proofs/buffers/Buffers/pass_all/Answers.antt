@@ -1,10 +1,9 @@
-use Rattle.std.proofs.Common.{◌∙◌, ap, sym, set}
-use Rattle.std.proofs.lemmas.List.Edits.{map_over_more}
+use Rattle.std.proofs.Common.{map, ap, ◌∙◌}
 use Rattle.rd_stream_verdict.specs.Heads.{passed}
+use Rattle.rd_stream_verdict.proofs.Sharing.{pass_shared}
 use Rattle.rd_stream_verdict.proofs.buffers.Buffers.pass_all.Goals as goal
 
-pub loop-copy-preserved : goal.loop-copy-preserved
-loop-copy-preserved c =
-    let all = c.deref_mut-copy-items.result.now in
-    ap (set c.loop-copy.copy-items c.loop-copy.copy-index) (c.pass.ensures ∙ ap passed (sym c.copy-item.is))
-    ∙ map_over_more passed all c.loop-copy.copy-items c.loop-copy.copy-index c.copy-item.result c.loop-copy-test.true c.loop-copy.invariant c.copy-item.is
+pub returns-then-self : goal.returns-then-self
+returns-then-self c =
+    pass_shared c.self.inside.sharers c.self.inside.shared c.self.inside.kept.items (c.self.invariant.only c.if-self.true)
+    ∙ ap (map passed) c.self.view_is
