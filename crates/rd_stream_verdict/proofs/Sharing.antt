@@ -3,6 +3,7 @@ use Rattle.std.proofs.Common.{◌≡◌, ℕ, zero, suc, ◌+◌, ◌-◌, ◌<�
 use Rattle.std.specs.Prelude.{slice_get, IfSome}
 use Rattle.std.specs.List.{list_all}
 use Rattle.std.proofs.lemmas.Bool.{and_parts, and_right}
+use Rattle.std.proofs.lemmas.Option.{slice_get-get_or}
 use Rattle.std.proofs.lemmas.List.{append-nil, drop_all, take_all, take_rest, length-map, length-replicate}
 use Rattle.rd_base.specs.Token.{Token}
 use Rattle.rd_base.specs.Words.{is_empty}
@@ -10,7 +11,7 @@ use Rattle.rd_base.specs.Verdicts.{same_token}
 use Rattle.rd_verdict.proofs.Alike.{same_is}
 use Rattle.rd_stream_verdict.specs.Queue.{bytes_in}
 use Rattle.rd_stream_verdict.specs.Said.{at_place}
-use Rattle.rd_stream_verdict.specs.Kept.{CopyKept, waiting_bytes}
+use Rattle.rd_stream_verdict.specs.Kept.{CopyKept, can_take, waiting_bytes}
 use Rattle.rd_stream_verdict.specs.Heads.{is_behind, none_behind, only_behind, counted, waits, closed, passed, cleared, heads_with}
 use Rattle.rd_stream_verdict.specs.Sharing.{with_first, sharing, all_behind}
 
@@ -277,3 +278,22 @@ rest_changed f n xs all new post same le is none =
 
 pub rest_size : (f : CopyKept → CopyKept) (n : ℕ) (xs : List CopyKept) → n ≤ length xs → length (take n xs ++ map f (drop n xs)) ≡ length xs
 rest_size f n xs le = omega (arith, length-append (take n xs) (map f (drop n xs)), length-map (drop n xs) f, length-take n xs, length-drop n xs)
+
+-- ---- whether a copy may be fed
+
+same_take : (n : ℕ) (t : Token) (k : ℕ) (cs : List CopyKept) → can_take (slice_get (sharing n t cs) k) ≡ can_take (slice_get cs k)
+same_take zero t k cs = refl
+same_take (suc n) t k [] = refl
+same_take (suc n) t zero (x ∷ cs) = refl
+same_take (suc n) t (suc k) (x ∷ cs) = same_take n t k cs
+
+pub take_there : (n : ℕ) (t : Token) (k : ℕ) (cs : List CopyKept) (c : CopyKept) → k < length cs → c ≡ get_or cs k c → can_take (slice_get (sharing n t cs) k) ≡ can_take (Some c)
+take_there n t k cs c lt is = same_take n t k cs ∙ ap can_take (slice_get-get_or cs k c lt ∙ ap Some (sym is))
+
+pub take_past : (n : ℕ) (t : Token) (k : ℕ) (cs : List CopyKept) → length cs ≤ k → can_take (slice_get (sharing n t cs) k) ≡ false
+take_past n t k cs past = same_take n t k cs ∙ go k cs past
+  where
+    go : (k : ℕ) (cs : List CopyKept) → length cs ≤ k → can_take (slice_get cs k) ≡ false
+    go k [] past = refl
+    go zero (x ∷ cs) past = absurd (omega arith)
+    go (suc k) (x ∷ cs) past = go k cs (omega arith)

@@ -1,5 +1,5 @@
 -- What is kept of what copies have said.
-use Rattle.std.specs.Prelude.{ℕ, ◌≡◌, ◌≤◌, ◌<◌, ◌+◌, Bool, true, false, if◌then◌else◌, List, [], ◌∷◌, length, map, drop, Option, Some, None, slice_get}
+use Rattle.std.specs.Prelude.{ℕ, ◌≡◌, ◌≤◌, ◌<◌, ◌+◌, ◌-◌, ◌^◌, ◌&&◌, not, nat_lt, Bool, true, false, if◌then◌else◌, List, [], ◌∷◌, length, map, drop, Option, Some, None, slice_get}
 use Rattle.std.specs.List.{list_all}
 use Rattle.rd_base.specs.Limits.{AreMaskLimits}
 use Rattle.rd_base.specs.Swap.{is_row_word}
@@ -55,6 +55,11 @@ pub record HasHeard (copy : ℕ) (t : Token) (old new : Kept) : Type 0 where
 pub record HasClosed (copy : ℕ) (old new : Kept) : Type 0 where
   pub most : new.most ≡ old.most
   pub at : (said : List Heard) → IsAt said old → IsAt (with_end copy said) new
+
+-- a copy that is there, isn't closed and was fed fewer than 2^32-1 tokens
+abbrev pub can_take : Option CopyKept → Bool
+can_take (Some copy) = not copy.is_whole && nat_lt copy.fed (2 ^ 32 - 1)
+can_take None = false
 
 -- what has been found out so far
 abbrev pub kept_answer : Kept → Option Verdict

@@ -2,14 +2,14 @@ ghost use Rattle.std.specs.Prelude.{◌≡◌, ◌≤◌, ◌<◌, ◌-◌, ◌+
 ghost use Rattle.std.specs.List.{list_all};
 ghost use Rattle.rd_base.specs.Token.{token};
 ghost use Rattle.rd_stream_verdict.specs.Said.{at_place};
-ghost use Rattle.rd_stream_verdict.specs.Kept.{waiting_bytes};
+ghost use Rattle.rd_stream_verdict.specs.Kept.{can_take, waiting_bytes};
 ghost use Rattle.rd_stream_verdict.specs.Sharing.{all_behind};
 ghost use Rattle.rd_stream_verdict.specs.Heads.{none_behind, only_behind, counted, waits, closed, passed, cleared, heads_with, heads_judged, heads_alone_fault};
 
 use crate::copy::CopyBuffer;
 use crate::heads::heads_with;
 use crate::judging::{Judged, alone_fault_of, judge_heads};
-use crate::shared::SharedToken;
+use crate::shared::{MOST_SHARED_BYTES, SharedToken};
 use crate::token::TokenRef;
 use rd_base::{MaskLimits, NoMemory, TokenKind, Verdict};
 use std::alloc::Global;
@@ -68,17 +68,14 @@ impl Buffers {
         self.kept[copy].fed()
     }
 
-    /// Whether the copy is there and may have more tokens: true only if so.
+    /// Whether the copy is there and may have more tokens.
     pub(crate) fn can_take(&self, copy: usize) -> bool
-        ensures there { result ≡ true → copy < length self.now }
-        ensures open { result ≡ true → IfSome (slice_get self.now copy) (λ c. c.is_whole ≡ false) }
-        ensures fewer { result ≡ true → IfSome (slice_get self.now copy) (λ c. c.fed < 2 ^ 32 - 1) }
+        ensures { result ≡ can_take (slice_get self.now copy) }
     {
-        if copy >= self.kept.len() {
-            return false;
+        match self.kept.as_slice().get(copy) {
+            Some(kept) => kept.can_take(),
+            None => false,
         }
-        let kept = &self.kept[copy];
-        !kept.is_whole() && kept.fed() < u32::MAX
     }
 
     /// The bytes of the copy's tokens that wait.
@@ -186,7 +183,7 @@ impl Buffers {
         ensures err { OnErr result (self.new ≡ self.old) }
     {
         if self.only_shared && copy == self.sharers {
-            if copy == 0 {
+            if copy == 0 && token.text.len() <= MOST_SHARED_BYTES {
                 self.shared.set(token.kind, token.text)?;
                 self.sharers = 1;
                 self.kept[copy].count();

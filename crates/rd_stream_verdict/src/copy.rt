@@ -1,4 +1,5 @@
-ghost use Rattle.std.specs.Prelude.{◌≡◌, ◌<◌, ◌-◌, ◌^◌, [], slice_get, false, OnOk, OnErr};
+ghost use Rattle.std.specs.Prelude.{◌≡◌, ◌<◌, ◌-◌, ◌^◌, [], slice_get, Some, false, OnOk, OnErr};
+ghost use Rattle.rd_stream_verdict.specs.Kept.{can_take};
 ghost use Rattle.rd_stream_verdict.specs.Queue.{bytes_in};
 ghost use Rattle.rd_stream_verdict.specs.Heads.{is_behind, counted, waits, closed, passed, cleared};
 
@@ -47,6 +48,13 @@ impl CopyBuffer {
         ensures { result ≡ self.now.is_whole }
     {
         self.is_whole
+    }
+
+    /// Whether it may be fed: it isn't closed, and was fed fewer than 2^32-1 tokens.
+    pub(crate) fn can_take(&self) -> bool
+        ensures { result ≡ can_take (Some self.now) }
+    {
+        !self.is_whole && self.fed < u32::MAX
     }
 
     /// Whether it must say more before the next place is judged.

@@ -7,6 +7,9 @@ use rd_base::{NoMemory, TokenKind};
 use std::alloc::Global;
 use std::marker::Model;
 
+/// The most bytes of a token that is shared, so that the bytes kept of a copy can be summed in 64 bits.
+pub(crate) const MOST_SHARED_BYTES: usize = 1 << 62;
+
 /// A token that several copies share: its kind and its bytes, at most 2^62, in a buffer whose room is used again.
 #[derive(Drop)]
 pub(crate) struct SharedToken {
@@ -37,11 +40,9 @@ impl SharedToken {
     /// Makes it the token of this kind and these bytes. After an answer of want of memory it is some token.
     #[inline(never)]
     pub(crate) fn set(&mut self, kind: TokenKind, text: &[u8]) -> Result<(), NoMemory>
+        requires { length text.now ≤ 2 ^ 62 }
         ensures { OnOk result (self.new ≡ token kind text.now) }
     {
-        if text.len() > 1 << 62 {
-            return Err(NoMemory);
-        }
         self.kind = kind;
         self.text.clear();
         match self.text.extend_from_slice(text) {

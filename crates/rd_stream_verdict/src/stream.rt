@@ -7,7 +7,7 @@ ghost use Rattle.rd_base.specs.Verdicts.{verdict, rows_at, is_agreed, mask_of};
 ghost use Rattle.rd_base.specs.declared.verdict.Verdict.TheVariants.{Agreed};
 ghost use Rattle.rd_stream_verdict.specs.Heads.{only_behind};
 ghost use Rattle.rd_stream_verdict.specs.Said.{nothing_said, answer};
-ghost use Rattle.rd_stream_verdict.specs.Kept.{IsAt, HasHeard, HasClosed, kept_answer, agrees, kept_bytes, unjudged_bytes, row_bytes, HaveWords};
+ghost use Rattle.rd_stream_verdict.specs.Kept.{IsAt, HasHeard, HasClosed, kept_answer, can_take, agrees, kept_bytes, unjudged_bytes, row_bytes, HaveWords};
 
 use crate::buffers::Buffers;
 use crate::judging::Judged;
@@ -147,8 +147,9 @@ impl StreamVerdict {
         }
     }
 
-    /// Whether the copy is there and may have more tokens: true only if so.
+    /// Whether the copy is there, isn't closed and was fed fewer than 2^32-1 tokens: the condition of `feed`.
     pub fn can_take(&self, copy: u8) -> bool
+        ensures exact { result ≡ can_take (slice_get self.now.copies copy) }
         ensures there { result ≡ true → copy < length self.now.copies }
         ensures open { result ≡ true → IfSome (slice_get self.now.copies copy) (λ c. c.is_whole ≡ false) }
         ensures fewer { result ≡ true → IfSome (slice_get self.now.copies copy) (λ c. c.fed < 2 ^ 32 - 1) }
