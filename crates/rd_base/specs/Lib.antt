@@ -1,5 +1,6 @@
 pub mod Words
 pub mod Token
+pub mod Scans
 pub mod WordCut
 pub mod Swap
 pub mod History

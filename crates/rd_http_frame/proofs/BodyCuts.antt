@@ -2,13 +2,14 @@
 use Rattle.std.proofs.Common.{◌≡◌, ℕ, ◌+◌, ◌≤◌, Bool, true, false, cond, leb, nat_le, List, ◌++◌, length, take, drop, length-take, length-drop, length-append, Result, Ok, Err, refl, sym, ap, ◌∙◌, subst, arith}
 use Rattle.std.proofs.lemmas.Bool.{leb-true, le-leb}
 use Rattle.std.proofs.lemmas.List.{drop-append-le, drop-take, length-take-le}
+use Rattle.rd_base.specs.Scans.{behind}
 use Rattle.rd_base.specs.declared.values.Scan.{Scan}
 use Rattle.rd_base.specs.declared.values.Scan.TheVariants.{Whole, More, Bad, TooBig, Unsupported}
 use Rattle.rd_http_frame.specs.declared.body.BodyRule.{BodyRule}
 use Rattle.rd_http_frame.specs.declared.body.BodyRule.TheVariants.{Empty, Length, Chunked, UntilEnd}
 use Rattle.rd_http_frame.specs.Chunks.{trailer_from}
 use Rattle.rd_http_frame.specs.Trailers.{IsTrailerScan}
-use Rattle.rd_http_frame.specs.Units.{behind, IsTrailerBehind, IsBodyScan}
+use Rattle.rd_http_frame.specs.Units.{IsTrailerBehind, IsBodyScan}
 use Rattle.rd_http_frame.proofs.ChunkSteps.{trailer_never}
 use Rattle.rd_http_frame.proofs.ChunkCuts.{trailer_from_within, trailer_from_stays, trailer_from_longer}
 use Rattle.rd_http_frame.proofs.TrailerCuts.{trailer_once, trailer_within, trailer_itself, trailer_stays, trailer_hopeless}

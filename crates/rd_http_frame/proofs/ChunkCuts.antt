@@ -8,11 +8,12 @@ use Rattle.std.proofs.lemmas.List.Folds.{prefix_len-append}
 use Rattle.std.specs.List.{prefix_len}
 use Rattle.std.specs.Char.{is_ascii_hexdigit}
 use Rattle.std.specs.Str.Parse.{digits_value}
+use Rattle.rd_base.specs.Scans.{and_then}
 use Rattle.rd_base.specs.declared.values.Scan.{Scan}
 use Rattle.rd_base.specs.declared.values.Scan.TheVariants.{Whole, More, Bad}
 use Rattle.rd_http_frame.specs.declared.chunk.SizeLine.{SizeLine}
 use Rattle.rd_http_frame.specs.declared.chunk.Chunk.{Chunk}
-use Rattle.rd_http_frame.specs.Chunks.{line_feed, line_end, when_whole, and_then, digits_line, size_line, chunk_behind, front_chunk, further, trailer_from}
+use Rattle.rd_http_frame.specs.Chunks.{line_feed, line_end, when_whole, digits_line, size_line, chunk_behind, front_chunk, further, trailer_from}
 use Rattle.rd_http_frame.proofs.ChunkSteps.{EndsLine, ShowsLine, line_end_shows, size_line_shows, chunk_fits, then_ok, when_ok, trailer_step, trailer_behind}
 use Rattle.rd_http_frame.proofs.HeadOnce.{take_longer}
 

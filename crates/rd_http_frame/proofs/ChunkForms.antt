@@ -8,11 +8,12 @@ use Rattle.std.specs.List.{prefix_len, list_all}
 use Rattle.std.specs.Char.{is_ascii_hexdigit}
 use Rattle.std.specs.Str.Parse.{digits_value}
 use Rattle.httparse.specs.Grammar.{print_section}
+use Rattle.rd_base.specs.Scans.{and_then}
 use Rattle.rd_base.specs.declared.values.Scan.TheVariants.{Whole}
 use Rattle.rd_http_frame.specs.declared.chunk.SizeLine.{SizeLine}
 use Rattle.rd_http_frame.specs.declared.chunk.Chunk.{Chunk}
 use Rattle.rd_http_frame.specs.Heads.{seen}
-use Rattle.rd_http_frame.specs.Chunks.{line_end, when_whole, and_then, size_line, chunk_behind, front_chunk, further, trailer_from}
+use Rattle.rd_http_frame.specs.Chunks.{line_end, when_whole, size_line, chunk_behind, front_chunk, further, trailer_from}
 use Rattle.rd_http_frame.specs.Trailers.{IsTrailerScan}
 use Rattle.rd_http_frame.specs.WholeUnits.{IsSizeLine, IsTrailer, IsChunked}
 use Rattle.rd_http_frame.specs.WholeUnits.{IsChunked as chunked}

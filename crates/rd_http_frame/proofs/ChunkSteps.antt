@@ -4,11 +4,12 @@ use Rattle.std.proofs.lemmas.Bool.{eqb-true}
 use Rattle.std.specs.List.{prefix_len}
 use Rattle.std.specs.Char.{is_ascii_hexdigit}
 use Rattle.std.specs.Str.Parse.{digits_value}
+use Rattle.rd_base.specs.Scans.{and_then}
 use Rattle.rd_base.specs.declared.values.Scan.{Scan}
 use Rattle.rd_base.specs.declared.values.Scan.TheVariants.{Whole, More, Bad, TooBig, Unsupported}
 use Rattle.rd_http_frame.specs.declared.chunk.SizeLine.{SizeLine}
 use Rattle.rd_http_frame.specs.declared.chunk.Chunk.{Chunk}
-use Rattle.rd_http_frame.specs.Chunks.{line_feed, line_end, when_whole, and_then, digits_line, size_line, chunk_behind, front_chunk, further, chunks_up_to, trailer_from}
+use Rattle.rd_http_frame.specs.Chunks.{line_feed, line_end, when_whole, digits_line, size_line, chunk_behind, front_chunk, further, chunks_up_to, trailer_from}
 
 -- what is there where CR LF is
 pub record EndsLine (bytes : List ℕ) (len : ℕ) : Type 0 where

@@ -2,13 +2,14 @@
 use Rattle.std.proofs.Common.{◌≡◌, ℕ, ◌+◌, ◌<◌, ◌≤◌, Bool, false, List, ◌++◌, length, take, drop, length-drop, Result, Ok, Err, refl, sym, ap, ◌∙◌, subst, arith}
 use Rattle.std.proofs.lemmas.Bool.{false≢true}
 use Rattle.std.proofs.lemmas.List.{drop-append-le, drop-take}
+use Rattle.rd_base.specs.Scans.{behind}
 use Rattle.rd_base.specs.declared.values.Scan.{Scan}
 use Rattle.rd_base.specs.declared.values.Scan.TheVariants.{Whole, Bad}
 use Rattle.rd_base.specs.declared.values.Part.{Part}
 use Rattle.rd_base.specs.declared.values.Part.TheVariants.{Request, Reply}
 use Rattle.rd_http_frame.specs.declared.unit.FinalHead.{FinalHead}
 use Rattle.rd_http_frame.specs.WholeHeads.{is_whole}
-use Rattle.rd_http_frame.specs.Units.{IsFinalHead, behind, rule_in, IsBodyScan, IsScanBehind, IsUnitScan, IsWholeRequestScan, IsShownFrom}
+use Rattle.rd_http_frame.specs.Units.{IsFinalHead, rule_in, IsBodyScan, IsScanBehind, IsUnitScan, IsWholeRequestScan, IsShownFrom}
 use Rattle.rd_http_frame.specs.UnitLaws.{IsUnitFraming}
 use Rattle.rd_http_frame.proofs.FinalOnce.{final_once, missing_open, final_fits, final_stays, final_longer, final_hopeless}
 use Rattle.rd_http_frame.proofs.BodyCuts.{behind_whole, behind_bad, body_once, body_within, body_itself, body_stays, body_hopeless}

@@ -4,6 +4,7 @@ use Rattle.std.specs.Prelude.{ℕ, zero, suc, ◌+◌, ◌==◌, ◌&&◌, nat_l
 use Rattle.std.specs.List.{prefix_len}
 use Rattle.std.specs.Char.{is_ascii_hexdigit}
 use Rattle.std.specs.Str.Parse.{digits_value}
+use Rattle.rd_base.specs.Scans.{and_then}
 use Rattle.rd_base.specs.declared.values.Scan.{Scan}
 use Rattle.rd_base.specs.declared.values.Scan.TheVariants.{Whole, More, Bad, TooBig, Unsupported}
 use Rattle.rd_http_frame.specs.declared.chunk.SizeLine.{SizeLine}
@@ -25,10 +26,6 @@ when_whole More made = Err More
 when_whole Bad made = Err Bad
 when_whole TooBig made = Err TooBig
 when_whole (Unsupported code) made = Err (Unsupported code)
-
-abbrev pub and_then : {A B : Type 0} → Result A Scan → (A → Result B Scan) → Result B Scan
-and_then (Ok a) f = f a
-and_then (Err scan) f = Err scan
 
 -- so many digits, and CR LF
 abbrev pub digits_line : ℕ → List ℕ → Result SizeLine Scan

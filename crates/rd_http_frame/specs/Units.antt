@@ -1,8 +1,9 @@
 -- What bytes come to as a request, or as the reply to one: RFC 9112, sections 2.1, 6 and 7.1, and RFC 9110,
 -- section 15.2.
 use Rattle.std.specs.Prelude.{◌≡◌, ℕ, ◌+◌, ◌&&◌, nat_le, nat_lt, Bool, true, false, if◌then◌else◌, List, length, drop, Result, Ok, Err}
+use Rattle.rd_base.specs.Scans.{behind}
 use Rattle.rd_base.specs.declared.values.Scan.{Scan}
-use Rattle.rd_base.specs.declared.values.Scan.TheVariants.{Whole, More, Bad, TooBig, Unsupported}
+use Rattle.rd_base.specs.declared.values.Scan.TheVariants.{Whole, More}
 use Rattle.rd_base.specs.declared.values.Part.{Part}
 use Rattle.rd_base.specs.declared.values.Part.TheVariants.{Request, Reply}
 use Rattle.rd_http_frame.specs.declared.body.BodyRule.{BodyRule}
@@ -31,14 +32,6 @@ pub data IsFinalHead (part : Part) : List ℕ → Result FinalHead Scan → Type
       → BeginsWith part bytes len head → is_interim head.status ≡ true → IsFinalHead part (drop len bytes) later → found ≡ head_behind len later → IsFinalHead part bytes found
   Final : (bytes : List ℕ) (len : ℕ) (head : HeadPlaces) (found : Result FinalHead Scan)
       → BeginsWith part bytes len head → is_interim head.status ≡ false → found ≡ Ok (record { from = 0; to = len; body = head.body }) → IsFinalHead part bytes found
-
--- so many bytes before
-abbrev pub behind : ℕ → Scan → Scan
-behind before (Whole len) = Whole (before + len)
-behind before More = More
-behind before Bad = Bad
-behind before TooBig = TooBig
-behind before (Unsupported code) = Unsupported code
 
 -- chunks, and a trailer behind the last size line
 abbrev pub IsTrailerBehind : List ℕ → Result ℕ Scan → Scan → Type 0

@@ -1,7 +1,8 @@
 ghost use Rattle.std.specs.Prelude.{◌≡◌, ◌≤◌, ◌<◌, ℕ, Bool, ◌+◌, ◌^◌, length, IfOk};
+ghost use Rattle.rd_base.specs.Scans.{behind};
 ghost use Rattle.rd_base.specs.declared.values.Scan.TheVariants.{Whole};
 ghost use Rattle.rd_base.specs.declared.values.Scan.{Scan};
-ghost use Rattle.rd_http_frame.specs.Units.{is_interim, IsFinalHead, behind, IsTrailerBehind, IsBodyScan, rule_in, IsUnitScan, IsWholeRequestScan, IsWholeReplyScan, IsShownFrom};
+ghost use Rattle.rd_http_frame.specs.Units.{is_interim, IsFinalHead, IsTrailerBehind, IsBodyScan, rule_in, IsUnitScan, IsWholeRequestScan, IsWholeReplyScan, IsShownFrom};
 ghost use Rattle.rd_http_frame.specs.UnitLaws.{IsUnitFraming, FindsUnits};
 ghost use Rattle.rd_http_frame.specs.WholeUnits.{IsRequest, IsReply};
 ghost use Rattle.rd_http_frame.specs.Chunks.{trailer_from};

@@ -1,13 +1,14 @@
 -- One message of a scan.
 use Rattle.std.proofs.Common.{◌≡◌, ℕ, ◌+◌, ◌≤◌, Bool, true, false, cond, eqb, List, [], ◌∷◌, length, drop, length-drop, drop-drop, Ok, Err, refl, sym, ap, ◌∙◌, arith}
 use Rattle.std.proofs.lemmas.Bool.{ne_eqb}
+use Rattle.rd_base.specs.Scans.{behind}
 use Rattle.rd_base.specs.declared.values.Scan.{Scan}
 use Rattle.rd_base.specs.declared.values.Scan.TheVariants.{Whole, More, Bad, TooBig, Unsupported}
 use Rattle.rd_pg_frame.specs.declared.front.Front.{Front}
 use Rattle.rd_pg_frame.specs.Letters.{Letters}
 use Rattle.rd_pg_frame.specs.Fronts.{front_of}
 use Rattle.rd_pg_frame.specs.FrontLaws.{front_fits}
-use Rattle.rd_pg_frame.specs.Scanning.{behind, go_on, scan_up_to}
+use Rattle.rd_pg_frame.specs.Scanning.{go_on, scan_up_to}
 use Rattle.rd_pg_frame.specs.MessageLaws.{enough}
 
 behind_behind : (m n : ℕ) (scan : Scan) → behind m (behind n scan) ≡ behind (m + n) scan

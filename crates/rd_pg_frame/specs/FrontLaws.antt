@@ -2,6 +2,7 @@
 use Rattle.std.proofs.Common.{◌≡◌, ◌≢◌, ℕ, suc, ◌+◌, ◌-◌, ◌^◌, ◌≤◌, Bool, true, false, cond, leb, ltb, eqb, List, [], ◌∷◌, ◌++◌, length, take, drop, length-append, length-take, Result, Ok, Err, refl, sym, ap, subst, ◌∙◌, arith}
 use Rattle.std.proofs.lemmas.Bool.{leb-true, ltb-false, le-leb, le-ltb, and_parts, eqb-true}
 use Rattle.std.proofs.lemmas.List.{take-append-le, drop-append-le, drop-take, take-take}
+use Rattle.rd_base.specs.Scans.{and_then}
 use Rattle.rd_base.specs.declared.values.Scan.{Scan}
 use Rattle.rd_base.specs.declared.values.Scan.TheVariants.{More, Bad}
 use Rattle.rd_pg_frame.specs.declared.place.Role.{Role}
@@ -9,7 +10,7 @@ use Rattle.rd_pg_frame.specs.declared.place.Role.TheVariants.{Inner, Last, Authe
 use Rattle.rd_pg_frame.specs.declared.front.Front.{Front}
 use Rattle.rd_pg_frame.specs.Letters.{Letters}
 use Rattle.rd_pg_frame.specs.Messages.{be_u32, is_length}
-use Rattle.rd_pg_frame.specs.Fronts.{role_of, code_ends, status_ends, ends, and_then, if_there, measured, sized, front_of}
+use Rattle.rd_pg_frame.specs.Fronts.{role_of, code_ends, status_ends, ends, if_there, measured, sized, front_of}
 
 -- the message that stands at the front
 pub record IsFront (letters : Letters) (is_first : Bool) (bytes : List ℕ) (front : Front) : Type 0 where

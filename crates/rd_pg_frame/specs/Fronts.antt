@@ -2,6 +2,7 @@
 -- content begins with.
 -- PostgreSQL manual, Frontend/Backend Protocol, Message Formats.
 use Rattle.std.specs.Prelude.{ℕ, ◌+◌, ◌==◌, ◌&&◌, nat_le, nat_lt, Bool, true, false, if◌then◌else◌, List, [], ◌∷◌, length, take, drop, Result, Ok, Err, codes}
+use Rattle.rd_base.specs.Scans.{and_then}
 use Rattle.rd_base.specs.declared.values.Scan.{Scan}
 use Rattle.rd_base.specs.declared.values.Scan.TheVariants.{More, Bad, Unsupported}
 use Rattle.rd_pg_frame.specs.declared.place.Role.{Role}
@@ -42,10 +43,6 @@ ends letters Authentication len content =
     else if nat_lt (length content) 4 then Err More
     else code_ends letters (be_u32 (take 4 content))
 ends letters Status len content = if len == 5 then status_ends content else Err Bad
-
-abbrev pub and_then : {A B : Type 0} → Result A Scan → (A → Result B Scan) → Result B Scan
-and_then (Ok a) f = f a
-and_then (Err scan) f = Err scan
 
 -- a message that is not refused is whole where its last byte is there
 abbrev pub if_there : ℕ → List ℕ → Bool → Result Front Scan

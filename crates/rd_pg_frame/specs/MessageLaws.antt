@@ -1,6 +1,7 @@
 -- Units of messages are cut in one way.
 use Rattle.std.proofs.Common.{◌≡◌, ◌≢◌, ℕ, zero, suc, ◌+◌, ◌<◌, ◌≤◌, Bool, true, false, ◌&&◌, cond, List, [], ◌∷◌, ◌++◌, length, take, drop, take-add, leb, length-append, length-take, length-drop, Result, Ok, Err, refl, sym, ap, subst, ◌∙◌, arith}
 use Rattle.std.proofs.lemmas.List.{drop-append-le, drop-take}
+use Rattle.rd_base.specs.Scans.{behind, and_then}
 use Rattle.rd_base.specs.declared.values.Scan.{Scan}
 use Rattle.rd_base.specs.declared.values.Scan.TheVariants.{Whole, More, Bad, TooBig, Unsupported}
 use Rattle.rd_pg_frame.specs.declared.place.Role.{Role}
@@ -8,9 +9,9 @@ use Rattle.rd_pg_frame.specs.declared.place.Role.TheVariants.{Inner, Last, Authe
 use Rattle.rd_pg_frame.specs.declared.front.Front.{Front}
 use Rattle.rd_pg_frame.specs.Letters.{Letters}
 use Rattle.rd_pg_frame.specs.Messages.{be_u32, is_among}
-use Rattle.rd_pg_frame.specs.Fronts.{role_of, ends, and_then, if_there, sized, front_of}
+use Rattle.rd_pg_frame.specs.Fronts.{role_of, ends, if_there, sized, front_of}
 use Rattle.rd_pg_frame.specs.FrontLaws.{Keeps, front_fits, front_itself, front_keeps}
-use Rattle.rd_pg_frame.specs.Scanning.{behind, go_on, scan_up_to, scan_messages}
+use Rattle.rd_pg_frame.specs.Scanning.{go_on, scan_up_to, scan_messages}
 use Rattle.rd_pg_frame.specs.Framing.{IsFraming}
 
 -- without a whole message there is no whole unit

@@ -1,7 +1,8 @@
 -- What bytes scan as, in each phase and for each note.
-use Rattle.std.specs.Prelude.{ℕ, zero, suc, ◌+◌, ◌==◌, ◌&&◌, ◌||◌, nat_le, nat_lt, Bool, true, false, if◌then◌else◌, List, [], ◌∷◌, length, take, drop, Result, Ok, Err, Option, Some, None}
+use Rattle.std.specs.Prelude.{ℕ, zero, suc, ◌==◌, ◌&&◌, ◌||◌, nat_le, nat_lt, Bool, true, false, if◌then◌else◌, List, [], ◌∷◌, length, take, drop, Result, Ok, Err, Option, Some, None}
+use Rattle.rd_base.specs.Scans.{behind}
 use Rattle.rd_base.specs.declared.values.Scan.{Scan}
-use Rattle.rd_base.specs.declared.values.Scan.TheVariants.{Whole, More, Bad, TooBig, Unsupported}
+use Rattle.rd_base.specs.declared.values.Scan.TheVariants.{Whole, More, Bad, Unsupported}
 use Rattle.rd_base.specs.declared.values.Phase.{Phase}
 use Rattle.rd_base.specs.declared.values.Note.{Note}
 use Rattle.rd_base.specs.declared.values.Side.{Side}
@@ -9,14 +10,6 @@ use Rattle.rd_pg_frame.specs.declared.front.Front.{Front}
 use Rattle.rd_pg_frame.specs.Letters.{Letters, password, ready, logging_in, asking_codes, query_reply}
 use Rattle.rd_pg_frame.specs.Fronts.{front_of}
 use Rattle.rd_pg_frame.specs.Messages.{be_u32}
-
--- so many bytes before
-abbrev pub behind : ℕ → Scan → Scan
-behind size (Whole len) = Whole (size + len)
-behind size More = More
-behind size Bad = Bad
-behind size TooBig = TooBig
-behind size (Unsupported code) = Unsupported code
 
 abbrev pub go_on : Result Front Scan → (ℕ → Scan) → Scan
 go_on (Ok front) rest = if front.is_last then Whole front.size else behind front.size (rest front.size)

@@ -3,6 +3,7 @@ use Rattle.std.proofs.Common.{◌≡◌, ℕ, zero, suc, ◌+◌, ◌≤◌, ◌
 use Rattle.std.specs.Prelude.{codes}
 use Rattle.std.proofs.lemmas.Bool.{ltb-true, ltb-false, le-leb, lt-ltb, le-ltb, eqb-true, and_parts, and_from}
 use Rattle.std.proofs.lemmas.List.{take_at, drop_at, take-append-drop}
+use Rattle.rd_base.specs.Scans.{behind}
 use Rattle.rd_base.specs.declared.values.Scan.{Scan}
 use Rattle.rd_base.specs.declared.values.Scan.TheVariants.{Whole, More, Bad, Unsupported}
 use Rattle.rd_pg_frame.specs.declared.place.Role.{Role}
@@ -12,7 +13,7 @@ use Rattle.rd_pg_frame.specs.Letters.{Letters}
 use Rattle.rd_pg_frame.specs.Messages.{be_u32, is_length, is_among, IsMessage}
 use Rattle.rd_pg_frame.specs.Fronts.{role_of, code_ends, status_ends, ends, front_of}
 use Rattle.rd_pg_frame.specs.FrontLaws.{front_shows, front_made, front_fits, front_itself, front_keeps, Keeps}
-use Rattle.rd_pg_frame.specs.Scanning.{behind, go_on, scan_up_to, scan_messages}
+use Rattle.rd_pg_frame.specs.Scanning.{go_on, scan_up_to, scan_messages}
 use Rattle.rd_pg_frame.specs.MessageLaws.{behind_whole, stopped_never}
 use Rattle.rd_pg_frame.specs.Units.{IsOneOf, IsAuthentication, HasStatus, IsSequence}
 use Rattle.rd_pg_frame.specs.Units.IsSequence.{Ends, Goes}

@@ -2,6 +2,7 @@
 -- read until their link ends.
 use Rattle.std.specs.Prelude.{ℕ, ◌+◌, ◌==◌, ◌&&◌, ◌||◌, not, Bool, true, false, if◌then◌else◌, List, [], ◌∷◌, length, drop, slice_index, codes}
 use Rattle.std.specs.List.{list_any}
+use Rattle.rd_base.specs.Scans.{behind}
 use Rattle.rd_base.specs.declared.values.Scan.{Scan}
 use Rattle.rd_base.specs.declared.values.Scan.TheVariants.{Whole, More, Bad, TooBig, Unsupported}
 use Rattle.rd_dialect.specs.Grammar.{Grammar}
@@ -34,14 +35,6 @@ scan_request phase bytes =
 abbrev pub early_len : Bool → List ℕ → ℕ
 early_len has_begun [] = 0
 early_len has_begun (b ∷ bytes) = if has_begun || b == 43 then early_len (not (b == 10)) bytes + 1 else 0
-
--- with so many bytes in front
-abbrev pub behind : ℕ → Scan → Scan
-behind count (Whole len) = Whole (count + len)
-behind count More = More
-behind count Bad = Bad
-behind count TooBig = TooBig
-behind count (Unsupported code) = Unsupported code
 
 -- any number of early lines, and then one of these kinds
 abbrev pub scan_answer : List ℕ → List ℕ → Scan

@@ -3,11 +3,12 @@ use Rattle.std.proofs.Common.{◌≡◌, ◌≢◌, ℕ, zero, suc, ◌+◌, ◌
 use Rattle.std.proofs.lemmas.List.{drop-append-le, drop-take}
 use Rattle.std.specs.Prelude.{◌==◌, ◌||◌, not}
 use Rattle.std.specs.List.{list_any}
+use Rattle.rd_base.specs.Scans.{behind}
 use Rattle.rd_base.specs.declared.values.Scan.{Scan}
 use Rattle.rd_base.specs.declared.values.Scan.TheVariants.{Whole, More, Bad, TooBig, Unsupported}
 use Rattle.rd_dialect.specs.LineGrammar.{scan_line}
 use Rattle.rd_dialect.specs.Scanned.{scan_bounds, scan_stays, scan_itself, scan_never_bad}
-use Rattle.rd_toy.specs.ToyGrammar.{refused, scan_kinds, early_len, behind, scan_answer}
+use Rattle.rd_toy.specs.ToyGrammar.{refused, scan_kinds, early_len, scan_answer}
 
 refused_whole : (code b len : ℕ) → refused code b ≢ Whole len
 refused_whole code b len e = by (b == 33) (b == 35) e

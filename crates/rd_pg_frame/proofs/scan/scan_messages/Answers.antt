@@ -1,8 +1,8 @@
 use Rattle.std.proofs.Common.{◌==◌, ◌∙◌, ap, sym, drop, length, length-drop, arith}
 use Rattle.std.proofs.lemmas.List.{take_rest}
+use Rattle.rd_base.specs.Scans.{behind}
 use Rattle.rd_pg_frame.specs.Letters.{letters_of}
 use Rattle.rd_pg_frame.specs.Fronts.{front_of}
-use Rattle.rd_pg_frame.specs.Scanning.{behind}
 use Rattle.rd_pg_frame.specs.MessageLaws.{stopped_behind}
 use Rattle.rd_pg_frame.proofs.Steps.{step_inner, step_stop}
 use Rattle.rd_pg_frame.proofs.scan.scan_messages.Goals as goal

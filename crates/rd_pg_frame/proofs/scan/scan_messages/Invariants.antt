@@ -1,6 +1,7 @@
 use Rattle.std.proofs.Common.{◌≡◌, ◌≤◌, ◌==◌, length, drop, ◌-◌}
+use Rattle.rd_base.specs.Scans.{behind}
 use Rattle.rd_pg_frame.specs.Letters.{letters_of}
-use Rattle.rd_pg_frame.specs.Scanning.{scan_messages, scan_up_to, behind}
+use Rattle.rd_pg_frame.specs.Scanning.{scan_messages, scan_up_to}
 use Rattle.rd_pg_frame.proofs.scan.scan_messages.Given as goal
 
 abbrev pub invariant-loop-front : goal.invariant-loop-front
