@@ -8,8 +8,9 @@ pub mod Sent
 pub mod Verdicts
 pub mod Heard
 pub mod OwnRows
-pub mod RowPlaces
 pub mod Outside
 pub mod Limits
 pub mod MemSink
 pub mod MemFiles
+pub mod Sources
+pub mod MemSource

@@ -1,5 +1,5 @@
 -- A text with its words swapped for one copy.
-use Rattle.std.specs.Prelude.{ℕ, ◌≡◌, ◌≤◌, length, Bool, true, false, List, [], ◌∷◌, ◌&&◌, nat_le, bytes_eq, find, unwrap_or, option_and_then, slice_get}
+use Rattle.std.specs.Prelude.{ℕ, ◌≡◌, ◌≤◌, length, Bool, true, false, List, [], ◌∷◌, ◌&&◌, nat_le, bytes_eq, find, unwrap_or, option_and_then, slice_get, All}
 use Rattle.std.specs.List.{flat_map}
 use Rattle.rd_base.specs.WordCut.{cut_words, is_word}
 use Rattle.rd_base.specs.declared.values.TokenKind.{TokenKind}
@@ -13,6 +13,10 @@ pub record IsRowWord (text : List ℕ) : Type 0 where
   pub word : is_word text ≡ true
   pub least : 16 ≤ length text
   pub most : length text ≤ 128
+
+-- rows whose texts are all such words
+abbrev pub AreRowWords : List (List (List ℕ)) → Type 0
+AreRowWords rows = All (λ row. All IsRowWord row) rows
 
 -- a row's text that was shown is this word
 abbrev pub shows : List ℕ → List (List ℕ) → Bool

@@ -5,11 +5,14 @@ mod bytes;
 mod mask;
 mod mem_files;
 mod mem_sink;
+mod mem_source;
 mod names;
 mod outside;
 mod row;
 mod rows;
 mod sends;
+mod session_note;
+mod source;
 mod values;
 mod verdict;
 mod word_list;
@@ -19,15 +22,18 @@ pub use bytes::{Bytes, NoMemory};
 pub use mask::Mask;
 pub use mem_files::MemFiles;
 pub use mem_sink::{MemSink, PushFault};
+pub use mem_source::MemSource;
 pub use names::{NameRules, Names};
 pub use outside::{Failed, FileFail, Files, Sink};
 pub use row::Row;
 pub use rows::Rows;
 pub use sends::{Send, Sends};
+pub use session_note::{OperatorEnd, SessionNote};
+pub use source::{Give, Source};
 pub use values::{
-    Cursor, Ending, Happening, Limits, Link, MaskLimits, Note, Part, Phase, Scan, Side, TokenKind,
-    TokenSpan, What, Which,
+    Beside, Cursor, Ending, Happening, Limits, Link, MaskLimits, Note, Part, Phase, Scan, Side,
+    TokenKind, TokenSpan, What, Which,
 };
 pub use verdict::Verdict;
 pub use word_list::Words;
-pub use words::{WordCut, cut_at, is_row_word, is_word, is_word_byte};
+pub use words::{WordCut, cut_at, is_row_word, is_word, is_word_byte, word_len};

@@ -1,4 +1,4 @@
-ghost use Rattle.std.specs.Prelude.{◌≡◌, ◌≤◌, ◌<◌, ◌++◌, [], ◌∷◌, List, ℕ, length, map, slice_index_or, OnOk, OnErr};
+ghost use Rattle.std.specs.Prelude.{◌≡◌, ◌≤◌, ◌<◌, ◌++◌, [], ◌∷◌, List, ℕ, length, map, slice_index_or, IfOk, OnOk, OnErr};
 ghost use Rattle.std.specs.List.{list_any};
 ghost use Rattle.std.specs.Char.{to_ascii_lowercase};
 ghost use Rattle.std.specs.Str.{str_eq_ignore_ascii_case};
@@ -41,6 +41,20 @@ impl Names {
             Ok(()) => Ok(()),
             Err(_) => Err(NoMemory),
         }
+    }
+
+    /// A copy of the list.
+    pub fn copied(&self, alloc: Global) -> Result<Names, NoMemory>
+        ensures { IfOk result (λ n. n ≡ self.now) }
+    {
+        let mut names = Names::new(alloc);
+        for name in self.kept.as_slice() {
+            let name = Bytes::from_slice(alloc, name.as_slice())?;
+            if names.kept.push(name).is_err() {
+                return Err(NoMemory);
+            }
+        }
+        Ok(names)
     }
 
     /// Whether this name is in the list, whatever the case of its ASCII letters.

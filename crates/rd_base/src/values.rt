@@ -1,3 +1,5 @@
+ghost use Rattle.std.specs.Prelude.{◌≡◌};
+
 use crate::bytes::Bytes;
 
 /// The number of a link: copies count from 0, and the client or the backend has the number of copies.
@@ -146,4 +148,28 @@ pub struct Cursor {
     pub mode: u8,
     pub left: u32,
     pub mark: u32,
+    pub beside: Beside,
+}
+
+/// A list that a walk goes along beside the tokens: where it stands, its next item, and how many are left.
+#[derive(Clone, Copy, Debug, PartialEq, Eq)]
+pub struct Beside {
+    pub from: u32,
+    pub to: u32,
+    pub at: u32,
+    pub left: u32,
+}
+
+impl Beside {
+    /// No such list.
+    pub fn nothing() -> Beside
+        ensures { result ≡ record { from = 0; to = 0; at = 0; left = 0 } }
+    {
+        Beside {
+            from: 0,
+            to: 0,
+            at: 0,
+            left: 0,
+        }
+    }
 }

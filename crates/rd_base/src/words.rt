@@ -79,7 +79,7 @@ fn word_end(text: &[u8], start: usize) -> usize
 }
 
 /// The bytes of the word that stands at the front.
-fn word_len(bytes: &[u8]) -> usize
+pub fn word_len(bytes: &[u8]) -> usize
     ensures front { result ≡ prefix_len is_word_byte bytes.now }
     ensures within { result ≤ length bytes.now }
 {

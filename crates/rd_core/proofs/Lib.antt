@@ -1,6 +1,6 @@
 pub mod Faulty
-pub mod Learning
-pub mod Released
+pub mod LinkSends
+pub mod OwnAfter
 pub mod Counted
 pub mod Tallied
 pub mod Asked

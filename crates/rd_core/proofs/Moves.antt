@@ -17,7 +17,7 @@ use Rattle.rd_dialect.specs.Grammar.{Grammar}
 use Rattle.rd_dialect.specs.declared.due.Due.{Due}
 use Rattle.rd_rules.specs.Exchange as rule
 use Rattle.rd_rules.specs.Exchange.{Rules, reading, read, scan_open}
-use Rattle.rd_rules.specs.Given.{learnt, masked_on}
+use Rattle.rd_rules.specs.Given.{masked_on}
 use Rattle.rd_rules.specs.Trouble.{Now, now_of, trouble_of, or_else, full_log_at, malformed, too_big, unsupported, disagreed, end_trouble, scan_trouble, big_among, is_big, open_asking, is_too_big, link_of, due_of, by_links}
 use Rattle.rd_rules.specs.Step.{grow_front_by, masked_now}
 use Rattle.rd_rules.proofs.Outs.{short_grown, short_out, short_out_after, short_with, out_at}
@@ -182,16 +182,16 @@ not_oversized n h e w over =
 
 -- ---- one step
 
-pub moved : (r : Rules) (stage later : Stage) (own rows : List Row) (clock then : Clock) (e : Entry) (next : rule.Reading)
+pub moved : (r : Rules) (stage later : Stage) (own after : List Row) (clock then : Clock) (e : Entry) (next : rule.Reading)
     → next ≡ next_reading r (seen_stage stage own) e
-    → seen_stage later (learnt own rows) ≡ now_from r stage.count stage.bye own next
+    → seen_stage later after ≡ now_from r stage.count stage.bye own next
     → then.entries ≡ clock.entries + 1 → then.moment ≡ max clock.moment e.at
     → then.began ≡ began_at r.side (standing stage [] clock) (seen_stage later []) (max clock.moment e.at)
-    → standing later (learnt own rows) then ≡ standing_after r (standing stage own clock) e
-moved r stage later own rows clock then e next next_is stage_is entries moment began =
-    let now : seen_stage later (learnt own rows) ≡ now_after r (seen_stage stage own) (next_reading r (seen_stage stage own) e) = stage_is ∙ ap (now_from r stage.count stage.bye own) next_is in
-    ap₂ (λ (n m : ℕ). record { stage = seen_stage later (learnt own rows); entries = n; moment = m; began = then.began }) entries moment
-    ∙ ap (λ b. record { stage = seen_stage later (learnt own rows); entries = clock.entries + 1; moment = max clock.moment e.at; began = b }) began
+    → standing later after then ≡ standing_after r (standing stage own clock) e
+moved r stage later own after clock then e next next_is stage_is entries moment began =
+    let now : seen_stage later after ≡ now_after r (seen_stage stage own) (next_reading r (seen_stage stage own) e) = stage_is ∙ ap (now_from r stage.count stage.bye own) next_is in
+    ap₂ (λ (n m : ℕ). record { stage = seen_stage later after; entries = n; moment = m; began = then.began }) entries moment
+    ∙ ap (λ b. record { stage = seen_stage later after; entries = clock.entries + 1; moment = max clock.moment e.at; began = b }) began
     ∙ ap (λ (s : Now). standing_by r.side (standing stage own clock) s (max clock.moment e.at)) now
 
 pub first_stage : (r : Rules) (now : rule.Reading) → now_from r 0 false [] now ≡ now_of r now

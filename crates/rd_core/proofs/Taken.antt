@@ -25,7 +25,7 @@ use Rattle.rd_rules.proofs.Acted.{not_both, no_stop, no_trouble, stop_next, last
 use Rattle.rd_rules.proofs.GivenSteps.{given_next, own_after-append}
 use Rattle.rd_rules.proofs.Moments.{began_next, moment_next}
 use Rattle.rd_core.proofs.Tallied.{tally_of, tally_on, tally_held, tally_over, tally_start}
-use Rattle.rd_core.proofs.Learning.{sends_to-more}
+use Rattle.rd_core.proofs.LinkSends.{sends_to-more}
 use Rattle.rd_core.proofs.Faulty.{fault_next, no_fault, nothing_fails}
 use Rattle.rd_core.specs.Faults.{fault_by}
 use Rattle.rd_core.specs.Standing.{Standing, Seen, Tally, tally_after, Counts, IsTimed, IsAt, next_reading, now_after, wait_at, began_at, standing_after, due_at, late_at, ending_at, Goes, Steps, SendsMore}

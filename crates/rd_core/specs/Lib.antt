@@ -1,6 +1,6 @@
 pub mod Stages
 pub mod Faults
-pub mod Sending
+pub mod OwnLists
 pub mod Standing
 pub mod Faces
 pub mod Kept

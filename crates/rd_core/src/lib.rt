@@ -4,6 +4,7 @@
 mod clock;
 mod faults;
 mod masks;
+mod own_lists;
 mod plan;
 mod sending;
 mod session;

@@ -3,21 +3,24 @@ ghost use Rattle.std.specs.List.{flat_map};
 ghost use Rattle.rd_base.specs.Limits.{AreLimits};
 ghost use Rattle.rd_base.specs.Sent.{sends_to};
 ghost use Rattle.rd_rules.specs.Exchange as rule;
-ghost use Rattle.rd_rules.specs.Given.{learnt, own_after, exchange_rows};
+ghost use Rattle.rd_rules.specs.Given.{own_after, exchange_rows};
 ghost use Rattle.rd_rules.specs.Step.{given_now, masked_now};
 ghost use Rattle.rd_rules.specs.Trouble.{trouble_of, ends_by};
 ghost use Rattle.rd_reading.specs.Whole.{IsDone};
 ghost use Rattle.rd_reading.specs.Seen.{seen_exchange, seen_front, seen_reading, rules_of, rows_are};
+ghost use Rattle.rd_core.specs.OwnLists.{latest_of};
 ghost use Rattle.rd_core.specs.Stages.{seen_stage, HasAsked};
 ghost use Rattle.rd_core.specs.Standing.{now_from};
 
 use crate::masks::masked_in;
+use crate::own_lists::OwnLists;
 use crate::sending::sends_of;
 use crate::stage::Stage;
 use crate::trouble::trouble_of;
 use rd_base::{Ending, NoMemory, Rows, Sends};
 use rd_dialect::Dialect;
 use rd_reading::{DoneExchange, Front, Reading, Setup, note_of, read_on};
+use rd_token_map::OwnRows;
 use std::alloc::Global;
 
 /// What a step does, worked out before anything changes.
@@ -25,6 +28,7 @@ use std::alloc::Global;
 pub(crate) struct Plan {
     pub(crate) stage: Stage,
     pub(crate) rows: Rows,
+    pub(crate) own: Option<OwnRows>,
     pub(crate) trouble: Option<Ending>,
     pub(crate) sends: Sends,
     pub(crate) masked: u64,
@@ -57,18 +61,9 @@ fn rows_in(alloc: Global, done: &[DoneExchange]) -> Result<Rows, NoMemory>
 {
     let mut rows = Rows::new(alloc);
     for exchange in done {
-        push_rows(&mut rows, &exchange.replies.rows)?;
+        rows.push_all(&exchange.replies.rows)?;
     }
     Ok(rows)
-}
-
-fn push_rows(rows: &mut Rows, more: &Rows) -> Result<(), NoMemory>
-    ensures { OnOk result (rows.new ≡ rows.old ++ more.now) }
-{
-    for place in 0..more.len() {
-        rows.push(more.at(place))?;
-    }
-    Ok(())
 }
 
 /// Where a session stands after what was read.
@@ -101,13 +96,13 @@ pub(crate) fn plan_of<D: Dialect>(
     dialect: &D,
     setup: &Setup,
     before: Before,
-    own: &Rows,
+    own: &OwnRows,
     told: &Rows,
     front: Front,
 ) -> Result<Plan, NoMemory>
     requires limits { AreLimits setup.now.limits }
     requires count { before.count ≤ setup.now.limits.exchanges_max }
-    ensures stage { IfOk result (λ p. seen_stage p.stage (learnt own.now p.rows) ≡ now_from (rules_of (D.grammar dialect.now) setup.now) before.count before.bye own.now
+    ensures stage { IfOk result (λ p. seen_stage p.stage (latest_of own.now p.own) ≡ now_from (rules_of (D.grammar dialect.now) setup.now) before.count before.bye own.now
         (rule.read (D.grammar dialect.now) setup.now.limits.mask (setup.now.limits.exchanges_max - before.count) (seen_front front))) }
     ensures trouble { IfOk result (λ p. p.trouble ≡ trouble_of (rules_of (D.grammar dialect.now) setup.now) (seen_stage p.stage [])) }
     ensures sends { IfOk result (λ p. p.sends ≡ sends_to (setup.now.limits.copies + 1) (λ link. given_now (rules_of (D.grammar dialect.now) setup.now) link own.now told.now before.was_out
@@ -122,14 +117,26 @@ pub(crate) fn plan_of<D: Dialect>(
 {
     let spare = setup.limits.exchanges_max - before.count;
     let reading = read_on(alloc, dialect, setup, spare, front)?;
-    let sends = sends_of(alloc, dialect, setup, own, told, before.was_out, &reading)?;
-    let rows = rows_in(alloc, reading.done.as_slice())?;
+    let done = reading.done.as_slice();
+    let mut lists = OwnLists::of(alloc, own, done)?;
+    let sends = sends_of(
+        alloc,
+        dialect,
+        setup,
+        &lists,
+        told,
+        before.was_out,
+        &reading,
+    )?;
+    let rows = rows_in(alloc, done)?;
+    let later = lists.take_last();
     let masked = masked_in(setup.side, before.was_out, &reading);
     let stage = stage_of(dialect, setup, before.bye, reading);
     let trouble = trouble_of(alloc, dialect, setup, &stage)?;
     Ok(Plan {
         stage,
         rows,
+        own: later,
         trouble,
         sends,
         masked,

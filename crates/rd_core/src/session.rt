@@ -2,13 +2,13 @@ ghost use Rattle.std.specs.Prelude.{◌≡◌, ◌≤◌, ◌<◌, ◌+◌, ◌+
 ghost use Rattle.rd_base.specs.Limits.{AreLimits};
 ghost use Rattle.rd_base.specs.History.{Entry, is_well_formed, is_timer};
 ghost use Rattle.rd_rules.specs.Exchange.{Rules};
-ghost use Rattle.rd_rules.specs.Given.{learnt};
 ghost use Rattle.rd_rules.specs.Sent.{final, exchanges, masked, agreed_rows};
 ghost use Rattle.rd_rules.specs.Wait.{wait, due_moment};
 ghost use Rattle.rd_rules.specs.Wanted.{wanted};
 ghost use Rattle.rd_rules.specs.Trouble.{or_else, full_log_at};
 ghost use Rattle.rd_core.specs.Faults.{fault_by};
 ghost use Rattle.rd_reading.specs.Seen.{rules_of};
+ghost use Rattle.rd_core.specs.OwnLists.{latest_of};
 ghost use Rattle.rd_core.specs.Clocks.{standing, entry_of};
 ghost use Rattle.rd_core.specs.Stages.{seen_stage};
 ghost use Rattle.rd_core.specs.Standing.{Seen, IsAt, Goes, Steps, Counts, SendsMore, late_at, next_reading, tally_after, open_len};
@@ -63,28 +63,28 @@ impl<D: Dialect> Session<D> {
         ensures at { IfOk result (λ s. IsAt (rules_of (D.grammar dialect) setup) s []) }
     {
         let front = start_front(alloc, &dialect, &setup)?;
-        let mut own = OwnRows::new(alloc)?;
+        let own = OwnRows::new(alloc);
         let told = Rows::new(alloc);
         let before = Before {
             count: 0,
             bye: false,
             was_out: false,
         };
-        let plan = plan_of(alloc, &dialect, &setup, before, own.rows(), &told, front)?;
+        let plan = plan_of(alloc, &dialect, &setup, before, &own, &told, front)?;
         let Plan {
             stage,
-            rows,
+            rows: _,
+            own: later,
             trouble,
             sends: _,
             masked,
         } = plan;
-        learn_all(&mut own, &rows);
         Ok(Session {
             alloc,
             dialect,
             setup,
             stage,
-            own,
+            own: later.unwrap_or(own),
             clock: Clock {
                 entries: 0,
                 moment: 0,
@@ -197,7 +197,7 @@ impl<D: Dialect> Session<D> {
                 &self.dialect,
                 &self.setup,
                 &self.stage,
-                self.own.rows(),
+                &self.own,
                 what,
             ),
         }
@@ -234,6 +234,7 @@ impl<D: Dialect> Session<D> {
         let Move {
             stage,
             rows,
+            own,
             clock,
             ending,
             sends,
@@ -243,13 +244,15 @@ impl<D: Dialect> Session<D> {
             &self.dialect,
             &self.setup,
             &self.stage,
-            self.own.rows(),
+            &self.own,
             self.clock,
             self.masked,
             happening,
             told,
         )?;
-        learn_all(&mut self.own, &rows);
+        if let Some(own) = own {
+            self.own = own;
+        }
         self.stage = stage;
         self.clock = clock;
         self.masked = masked;
@@ -264,6 +267,7 @@ impl<D: Dialect> Session<D> {
 struct Move {
     stage: Stage,
     rows: Rows,
+    own: Option<OwnRows>,
     clock: Clock,
     ending: Option<Ending>,
     sends: Sends,
@@ -276,7 +280,7 @@ fn move_of<D: Dialect>(
     dialect: &D,
     setup: &Setup,
     stage: &Stage,
-    own: &Rows,
+    own: &OwnRows,
     clock: Clock,
     masked: u64,
     happening: &Happening,
@@ -284,7 +288,7 @@ fn move_of<D: Dialect>(
 ) -> Result<Move, NoMemory>
     requires kept { IsKept (D.grammar dialect.now) setup.now stage.now clock.entries masked None }
     requires sized { is_oversized happening.now.what ≡ false }
-    ensures goes { IfOk result (λ m. Goes (rules_of (D.grammar dialect.now) setup.now) (standing stage.now own.now clock) (entry_of happening.now told.now) (standing m.stage (learnt own.now m.rows) m.clock) m.ending m.sends) }
+    ensures goes { IfOk result (λ m. Goes (rules_of (D.grammar dialect.now) setup.now) (standing stage.now own.now clock) (entry_of happening.now told.now) (standing m.stage (latest_of own.now m.own) m.clock) m.ending m.sends) }
     ensures counts { IfOk result (λ m. record { masked = m.masked; rows = m.rows } ≡ tally_after (rules_of (D.grammar dialect.now) setup.now) (seen_stage stage.now own.now)
         (next_reading (rules_of (D.grammar dialect.now) setup.now) (seen_stage stage.now own.now) (entry_of happening.now told.now)) (record { masked = masked; rows = [] })) }
     ensures kept { IfOk result (λ m. IsKept (D.grammar dialect.now) setup.now m.stage m.clock.entries m.masked m.ending) }
@@ -299,6 +303,7 @@ fn move_of<D: Dialect>(
     let Plan {
         stage: later,
         rows,
+        own: learnt,
         trouble,
         sends,
         masked: fresh,
@@ -308,6 +313,7 @@ fn move_of<D: Dialect>(
     Ok(Move {
         stage: later,
         rows,
+        own: learnt,
         clock,
         ending,
         sends,
@@ -336,14 +342,5 @@ fn is_oversized(what: &What) -> bool
     match what {
         What::Piece(_, bytes) => bytes.len() > 16_384,
         _ => false,
-    }
-}
-
-/// Learns rows, in their order.
-fn learn_all(own: &mut OwnRows, rows: &Rows)
-    ensures { own.new ≡ learnt own.old rows.now }
-{
-    for place in 0..rows.len() {
-        own.learn(rows.at(place));
     }
 }

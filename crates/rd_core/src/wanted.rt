@@ -10,11 +10,12 @@ ghost use Rattle.rd_reading.specs.Seen.{seen_request, seen_exchange, seen_front,
 ghost use Rattle.rd_reading.specs.Room.{HasRoom};
 ghost use Rattle.rd_core.specs.Stages.{HasAsked};
 
-use crate::sending::{after_rows, latest};
+use crate::own_lists::{after_rows, latest};
 use crate::stage::Stage;
 use rd_base::{NoMemory, Rows, What, Words, is_row_word};
 use rd_dialect::Dialect;
 use rd_reading::{Reading, Request, Setup, first_bytes, grow_front, note_of, read_on};
+use rd_token_map::OwnRows;
 use std::alloc::Global;
 
 /// The most words that are asked in one step.
@@ -114,7 +115,7 @@ fn words_in<D: Dialect>(
     alloc: Global,
     dialect: &D,
     setup: &Setup,
-    own: &Rows,
+    own: &OwnRows,
     was_out: bool,
     reading: &Reading,
 ) -> Result<Words, NoMemory>
@@ -127,16 +128,16 @@ fn words_in<D: Dialect>(
     let mut later = None;
     let mut skips = was_out;
     for exchange in reading.done.as_slice() {
-        let rows = latest(own, &later);
+        let rows = latest(own, &later).rows();
         let request = &exchange.request;
         push_fresh(alloc, dialect, setup, skips, rows, request, &mut words)?;
         skips = false;
-        later = after_rows(alloc, own, later, &exchange.replies.rows)?;
+        later = after_rows(alloc, own, &later, &exchange.replies.rows)?;
     }
     let Some(request) = &reading.out else {
         return Ok(words);
     };
-    let rows = latest(own, &later);
+    let rows = latest(own, &later).rows();
     push_fresh(alloc, dialect, setup, skips, rows, request, &mut words)?;
     Ok(words)
 }
@@ -147,7 +148,7 @@ pub(crate) fn words_next<D: Dialect>(
     dialect: &D,
     setup: &Setup,
     stage: &Stage,
-    own: &Rows,
+    own: &OwnRows,
     what: &What,
 ) -> Result<Words, NoMemory>
     requires limits { AreLimits setup.now.limits }

@@ -1,13 +1,11 @@
 -- Plain lines: a unit ends with its only line feed.
 use Rattle.std.specs.Prelude.{ℕ, ◌+◌, ◌==◌, ◌++◌, true, false, if◌then◌else◌, List, [], ◌∷◌, drop}
-use Rattle.rd_base.specs.Token.{Token}
-use Rattle.rd_base.specs.WordCut.{cut_words, words_of}
+use Rattle.rd_base.specs.WordCut.{words_of}
 use Rattle.rd_base.specs.Swap.{swap_words}
 use Rattle.rd_base.specs.declared.values.Scan.{Scan}
 use Rattle.rd_base.specs.declared.values.Scan.TheVariants.{Whole, More, Bad, TooBig, Unsupported}
-use Rattle.rd_base.specs.declared.values.TokenKind.{TokenKind}
-use Rattle.rd_base.specs.declared.values.TokenKind.TheVariants.{Soft, Firm, Name}
 use Rattle.rd_dialect.specs.Grammar.{Grammar}
+use Rattle.rd_token_map.specs.WordsIn.{words_in}
 
 -- one byte more in front
 abbrev pub one_more : Scan → Scan
@@ -21,16 +19,6 @@ one_more (Unsupported code) = Unsupported code
 abbrev pub scan_line : List ℕ → Scan
 scan_line [] = More
 scan_line (b ∷ bytes) = if b == 10 then Whole 1 else one_more (scan_line bytes)
-
-abbrev pub soft_text : TokenKind → List ℕ → List (List ℕ)
-soft_text Soft text = text ∷ []
-soft_text Firm text = []
-soft_text Name text = []
-
--- the texts of the Soft tokens
-abbrev pub soft_texts : List Token → List (List ℕ)
-soft_texts [] = []
-soft_texts (t ∷ ts) = soft_text t.kind t.text ++ soft_texts ts
 
 abbrev pub line : Grammar
 line =
@@ -47,8 +35,8 @@ line =
       flat = λ part phase note bytes whole. bytes;
       tokens = λ part phase note unit. words_of true unit;
       closed = λ part phase note bytes. words_of false bytes;
-      first_cursor = record { at = 0; mode = 0; left = 0; mark = 0 };
+      first_cursor = record { at = 0; mode = 0; left = 0; mark = 0; beside = record { from = 0; to = 0; at = 0; left = 0 } };
       left = λ part phase note flat whole cursor. words_of whole (drop cursor.at flat);
-      asked = λ phase note unit. soft_texts (cut_words unit);
+      asked = λ phase note unit. words_in unit;
       to_copy = λ phase note copy own told unit. swap_words copy (own ++ told) unit;
     }

@@ -95,7 +95,8 @@ impl<D: Dialect> OutSession<D> {
         self.session.masked()
     }
 
-    /// How many bytes the session keeps of its links: those past the last agreed exchange.
+    /// How many bytes the session keeps of its links: those past the last answered call. So a call that is out counts,
+    /// though it is agreed.
     pub fn open_bytes(&self) -> usize
         ensures { result ≡ open_len self.now.at.stage }
     {

@@ -3,3 +3,6 @@ pub mod Cutting
 pub mod WholeUnits
 pub mod ReadSteps
 pub mod FewMasks
+pub mod OneList
+pub mod InFront
+pub mod EqualUnits

@@ -2,3 +2,4 @@ pub mod Room
 pub mod Heard
 pub mod Whole
 pub mod Seen
+pub mod Alike

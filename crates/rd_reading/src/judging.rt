@@ -1,5 +1,4 @@
 ghost use Rattle.std.specs.Prelude.{◌≡◌, ◌≤◌, ◌<◌, ◌+◌, ◌-◌, ◌^◌, ◌++◌, [], ◌∷◌, List, ℕ, Some, None, true, false, length, map, take, All, MatchOption, option_map, IfSome, IfOk, OnOk};
-ghost use Rattle.rd_base.specs.Token.{token_of};
 ghost use Rattle.rd_base.specs.Limits.{AreMaskLimits};
 ghost use Rattle.rd_verdict.specs.LiesIn.{LiesIn};
 ghost use Rattle.rd_dialect.specs.Due.{IsDue, tokens_due};
@@ -10,9 +9,12 @@ ghost use Rattle.rd_rules.specs.Given.{agreed_mask, learnt_rows};
 ghost use Rattle.rd_rules.specs.Trouble.{judge_by, blamed as rule_blamed};
 ghost use Rattle.rd_reading.specs.Room.{room, flat_room};
 ghost use Rattle.rd_reading.specs.Heard.{left_due};
+ghost use Rattle.rd_base.specs.Token.{Token, token_of};
+ghost use Rattle.rd_reading.specs.Alike.{AreJudged, are_units};
 
+use crate::fronts::have_fronts;
 use crate::opens::{Open, scan_open};
-use crate::unit::{LinkUnit, push_unit};
+use crate::unit::{LinkUnit, first_bytes, push_unit};
 use rd_base::{Bytes, Ending, Mask, MaskLimits, NoMemory, Rows, Scan, Verdict};
 use rd_dialect::{Dialect, Due};
 use rd_verdict::{Copies, Spans, judge, rows_of};
@@ -65,11 +67,11 @@ fn push_tokens<D: Dialect>(
     Ok(count)
 }
 
-/// Whole units, one of each link, and their tokens.
+/// Whole units, one of each link, and their tokens: none where the units are equal, which then agree without a mask.
 #[derive(Drop)]
 pub(crate) struct WholeUnits {
     pub units: Vec<LinkUnit>,
-    pub copies: Copies,
+    pub copies: Option<Copies>,
 }
 
 /// The units that all of these links begin with. None where one of them isn't there.
@@ -81,26 +83,82 @@ pub(crate) fn whole_units<D: Dialect>(
 ) -> Result<Option<WholeUnits>, NoMemory>
     requires { length opens.now ≤ 8 }
     ensures units { IfOk result (λ found. option_map (λ w. w.units.items) found ≡ rule.units (D.grammar dialect.now) due opens.now) }
-    ensures copies { IfOk result (λ found. IfSome found (λ w. w.copies ≡ rule.token_lists (D.grammar dialect.now) due w.units.items)) }
+    ensures copies { IfOk result (λ found. IfSome found (λ w. AreJudged (rule.token_lists (D.grammar dialect.now) due w.units.items) w.copies)) }
 {
     let mut units = Vec::new(alloc);
-    let mut copies = Copies::new(alloc);
     for one in opens {
         match scan_open(dialect, due, one) {
             Scan::Whole(len) => {
-                let unit = &one.bytes()[..len];
-                push_tokens(alloc, dialect, due, unit, true, &mut copies)?;
-                let bytes = Bytes::from_slice(alloc, unit)?;
+                let bytes = Bytes::from_slice(alloc, &one.bytes()[..len])?;
                 push_unit(&mut units, LinkUnit::new(one.link(), bytes))?;
             }
             _ => return Ok(None),
         }
     }
+    let copies = copies_of(alloc, dialect, due, units.as_slice())?;
     Ok(Some(WholeUnits { units, copies }))
 }
 
+/// The tokens of whole units, unless the units are equal.
+fn copies_of<D: Dialect>(
+    alloc: Global,
+    dialect: &D,
+    due: Due,
+    units: &[LinkUnit],
+) -> Result<Option<Copies>, NoMemory>
+    requires few { length units.now ≤ 8 }
+    requires stand { All (λ u. IsDue (D.grammar dialect.now) due u.bytes true) units.now }
+    requires room { All (λ u. length u.bytes ≤ room) units.now }
+    ensures { IfOk result (λ copies. AreJudged (rule.token_lists (D.grammar dialect.now) due units.now) copies) }
+{
+    if are_equal(units) {
+        return Ok(None);
+    }
+    let copies = cut_units(alloc, dialect, due, units)?;
+    Ok(Some(copies))
+}
+
+/// Whether these units have the same bytes.
+fn are_equal(units: &[LinkUnit]) -> bool
+    ensures { result ≡ are_units (rule.first_bytes units.now) units.now }
+{
+    let first = first_bytes(units);
+    units.iter().all(|unit| unit.bytes() == first)
+}
+
+/// The tokens of whole units.
+fn cut_units<D: Dialect>(
+    alloc: Global,
+    dialect: &D,
+    due: Due,
+    units: &[LinkUnit],
+) -> Result<Copies, NoMemory>
+    requires few { length units.now ≤ 8 }
+    requires stand { All (λ u. IsDue (D.grammar dialect.now) due u.bytes true) units.now }
+    requires room { All (λ u. length u.bytes ≤ room) units.now }
+    ensures { IfOk result (λ copies. copies ≡ rule.token_lists (D.grammar dialect.now) due units.now) }
+{
+    let mut copies = Copies::new(alloc);
+    for unit in units {
+        push_tokens(alloc, dialect, due, unit.bytes(), true, &mut copies)?;
+    }
+    Ok(copies)
+}
+
 /// The masked places, where the copies agree.
-pub(crate) fn agreement(most: MaskLimits, copies: &Copies) -> Option<Mask>
+pub(crate) fn agreement(most: MaskLimits, copies: &Option<Copies>) -> Option<Mask>
+    requires { AreMaskLimits most }
+    ensures { (lists : List (List Token)) → AreJudged lists copies.now → MatchOption result
+        (rule.agree most lists ≡ false)
+        (λ mask. (rule.agree most lists ≡ true) × (mask ≡ agreed_mask most lists)) }
+{
+    match copies {
+        Some(copies) => agreement_of(most, copies),
+        None => Some(Mask::new()),
+    }
+}
+
+fn agreement_of(most: MaskLimits, copies: &Copies) -> Option<Mask>
     requires { AreMaskLimits most }
     ensures { MatchOption result
         (rule.agree most copies.now ≡ false)
@@ -118,6 +176,24 @@ pub(crate) fn agreement(most: MaskLimits, copies: &Copies) -> Option<Mask>
 
 /// The rows of agreed copies, where any are learnt.
 pub(crate) fn rows_learnt(
+    alloc: Global,
+    learns: bool,
+    most: MaskLimits,
+    copies: &Option<Copies>,
+    mask: &Mask,
+) -> Result<Rows, NoMemory>
+    requires limits { AreMaskLimits most }
+    requires agreed { IfSome copies.now (λ lists. (rule.agree most lists ≡ true) × (mask.now ≡ agreed_mask most lists)) }
+    ensures { IfOk result (λ rows. (lists : List (List Token)) → AreJudged lists copies.now → rows ≡ learnt_rows learns most lists) }
+{
+    match copies {
+        Some(copies) => rows_of_copies(alloc, learns, most, copies, mask),
+        None => Ok(Rows::new(alloc)),
+    }
+}
+
+/// The same of lists that were cut.
+fn rows_of_copies(
     alloc: Global,
     learns: bool,
     most: MaskLimits,
@@ -207,6 +283,9 @@ pub fn early_fault<D: Dialect>(
     requires limits { AreMaskLimits most }
     ensures { IfOk result (λ e. e ≡ judge_by most exchange (map (heard (D.grammar dialect.now) due) opens.now)) }
 {
+    if have_fronts(dialect, due, opens) {
+        return Ok(None);
+    }
     let early = hear(alloc, dialect, due, opens)?;
     Ok(fault_of(most, exchange, early))
 }

@@ -2,6 +2,7 @@
 #![tactic(auto)]
 
 mod exchange;
+mod fronts;
 mod judging;
 mod opens;
 mod read;

@@ -1,2 +1,2 @@
-pub mod Spares
 pub mod SwapForm
+pub mod WordsIn

@@ -51,7 +51,7 @@ fn push_first_pair(
 }
 
 /// Where the byte first stands, or the length.
-fn first_or_len(text: &[u8], byte: u8) -> usize
+pub(crate) fn first_or_len(text: &[u8], byte: u8) -> usize
     ensures place { result ≡ position_or_len (λ b. b == byte) text.now }
     ensures within { result ≤ length text.now }
 {
@@ -109,7 +109,7 @@ fn push_value(
 }
 
 /// Whether the text has the character U+FFFD.
-fn has_replacement(text: &str) -> bool
+pub(crate) fn has_replacement(text: &str) -> bool
     ensures { result ≡ has_replacement text.now }
 {
     text.chars().any(|c| c == '\u{FFFD}')

@@ -1,61 +1,56 @@
-ghost use Rattle.std.specs.Prelude.{◌≡◌, ◌≤◌, ◌<◌, ◌∷◌, [], length, take, filter, not, vec_len, IfOk};
+ghost use Rattle.std.specs.Prelude.{◌≡◌, ◌≤◌, ◌<◌, [], length, slice_index_or, IfOk, OnOk, OnErr};
 ghost use Rattle.rd_base.specs.OwnRows.{learn_row};
-ghost use Rattle.rd_base.specs.Swap.{shows};
-ghost use Rattle.rd_token_map.specs.Spares.{HasSpares};
 
-use rd_base::{NoMemory, Row, Rows};
+use rd_base::{NoMemory, Rows};
 use std::alloc::Global;
 use std::marker::Model;
+
+/// The most rows that a session keeps.
+const MOST_ROWS: usize = 256;
 
 /// The rows that a session has learnt: the newest first, one per shown word, at most 256.
 #[derive(Drop)]
 pub struct OwnRows {
     rows: Rows,
-    spares: Vec<Box<Row>>,
 }
 
 impl Model for OwnRows {
-    ghost use Rattle.std.specs.Prelude.{List, ℕ};
-    ghost use Rattle.rd_token_map.specs.Spares.{HasSpares};
+    ghost use Rattle.std.specs.Prelude.{◌≤◌, List, ℕ, length};
 
     ghost Value = { List (List (List ℕ)) };
 
     ghost view = { λ o. o.rows };
 
-    ghost invariant = { λ o. HasSpares o.rows o.spares };
+    ghost invariant = { λ o. length o.rows ≤ 256 };
 }
 
 impl OwnRows {
-    /// No rows yet, and the room for 256.
-    pub fn new(alloc: Global) -> Result<OwnRows, NoMemory>
-        ensures { IfOk result (λ o. o ≡ []) }
+    /// No rows yet. It takes no memory.
+    pub fn new(alloc: Global) -> OwnRows
+        ensures { result ≡ [] }
     {
-        let mut spares = match Vec::with_capacity(alloc, 256) {
-            Ok(spares) => spares,
-            Err(_) => return Err(NoMemory),
-        };
-        while spares.len() < 256 {
-            match Box::new(alloc, Row::blank()) {
-                Ok(spare) => spares.push_reserved(spare),
-                Err(_) => return Err(NoMemory),
-            }
-        }
-        Ok(OwnRows {
+        OwnRows {
             rows: Rows::new(alloc),
-            spares,
-        })
+        }
     }
 
-    /// Puts a copy of this row first, in place of one that shows the same word, and keeps the first 256. Takes no memory.
-    pub fn learn(&mut self, row: &Row)
-        ensures { self.new ≡ learn_row 256 self.old row.now }
+    /// The same rows, shared with this list.
+    pub fn copied(&self, alloc: Global) -> Result<OwnRows, NoMemory>
+        ensures { IfOk result (λ o. o ≡ self.now) }
     {
-        drop_shown(&mut self.rows, &mut self.spares, row.word());
-        drop_last(&mut self.rows, &mut self.spares);
-        if let Some(mut spare) = self.spares.pop() {
-            *spare = row.copied();
-            self.rows.put_first(spare);
-        }
+        let mut rows = Rows::new(alloc);
+        rows.push_all(&self.rows)?;
+        Ok(OwnRows { rows })
+    }
+
+    /// Puts the row at a place of another list first, in place of one that shows the same word, and keeps the first
+    /// 256. The row is shared with that list. After want of memory nothing has changed.
+    pub fn learn(&mut self, rows: &Rows, place: usize) -> Result<(), NoMemory>
+        requires { place < length rows.now }
+        ensures ok { OnOk result (self.new ≡ learn_row 256 self.old (slice_index_or rows.now place [])) }
+        ensures err { OnErr result (self.new ≡ self.old) }
+    {
+        self.rows.learn(MOST_ROWS, rows, place)
     }
 
     pub fn rows(&self) -> &Rows
@@ -63,30 +58,5 @@ impl OwnRows {
         ensures most { length self.now ≤ 256 }
     {
         &self.rows
-    }
-}
-
-/// Drops the rows that show this word.
-fn drop_shown(rows: &mut Rows, spares: &mut Vec<Box<Row>>, word: &[u8])
-    requires { HasSpares rows.old spares.old }
-    ensures kept { rows.new ≡ filter (λ r. not (shows word.now r)) rows.old }
-    ensures spares { HasSpares rows.new spares.new }
-{
-    while let Some(row) = rows.take_shown(word) {
-        spares.push_reserved(row);
-    }
-}
-
-/// Drops the last of 256 rows.
-fn drop_last(rows: &mut Rows, spares: &mut Vec<Box<Row>>)
-    requires { HasSpares rows.old spares.old }
-    ensures kept { rows.new ≡ take 255 rows.old }
-    ensures few { length rows.new ≤ 255 }
-    ensures spares { HasSpares rows.new spares.new }
-{
-    if rows.len() == 256 {
-        if let Some(row) = rows.take_last() {
-            spares.push_reserved(row);
-        }
     }
 }

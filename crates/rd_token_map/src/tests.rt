@@ -1,6 +1,6 @@
 ghost use Rattle.std.specs.Prelude.{◌≡◌, length};
 
-use crate::{NoBook, OwnRows, TokenBook, swap_form, swap_words};
+use crate::{NoBook, OwnRows, TokenBook, form_words, swap_form, swap_words, words_in};
 use rd_base::{Row, Rows, is_row_word};
 use std::process::Abort;
 use std::test::Fail;
@@ -17,12 +17,17 @@ fn row_of(rt: &impl Abort, shown: &str, own: &str) -> Row
 #[test]
 fn keeps_the_newest_rows(rt: HostRuntime) -> Result<(), Fail> {
     let alloc = rt.alloc();
-    let mut own = OwnRows::new(alloc)?;
+    let mut rows = Rows::new(alloc);
     for number in 0..300 {
         let shown = format!(in alloc; "shown-0000-0000-{number}")?;
-        own.learn(&row_of(&rt, shown.as_str(), "first-0000-0000-0000"));
+        rows.push(&row_of(&rt, shown.as_str(), "first-0000-0000-0000"))?;
     }
-    own.learn(&row_of(&rt, "shown-0000-0000-100", "second-0000-0000-0000"));
+    rows.push(&row_of(&rt, "shown-0000-0000-100", "second-0000-0000-0000"))?;
+    let mut own = OwnRows::new(alloc);
+    for place in 0..rows.len() {
+        own.learn(&rows, place)?;
+    }
+    let own = own.copied(alloc)?;
     assert_eq!(rt; own.rows().len(), 256);
     for (place, shown) in [
         (0, "shown-0000-0000-100"),
@@ -47,8 +52,8 @@ fn keeps_the_newest_rows(rt: HostRuntime) -> Result<(), Fail> {
 #[test]
 fn swaps_the_values_of_forms(rt: HostRuntime) -> Result<(), Fail> {
     let alloc = rt.alloc();
-    let mut own = OwnRows::new(alloc)?;
-    own.learn(&row_of(&rt, "aaaaaaaaaaaaaaaa", "bbbbbbbbbbbbbbbb"));
+    let mut own = Rows::new(alloc);
+    own.push(&row_of(&rt, "aaaaaaaaaaaaaaaa", "bbbbbbbbbbbbbbbb"))?;
     for (form, want) in [
         ("", ""),
         ("k=", "k="),
@@ -70,8 +75,28 @@ fn swaps_the_values_of_forms(rt: HostRuntime) -> Result<(), Fail> {
         ("a=b=aaaaaaaaaaaaaaaa", "a=b%3Dbbbbbbbbbbbbbbbb"),
         ("a=%2c&b=aaaaaaaaaaaaaaaa", "a=%2c&b=bbbbbbbbbbbbbbbb"),
     ] {
-        let swapped = swap_form(alloc, 1, own.rows(), &Rows::new(alloc), form.as_bytes())?;
+        let swapped = swap_form(alloc, 1, &own, &Rows::new(alloc), form.as_bytes())?;
         assert_eq!(rt; swapped.as_slice(), want.as_bytes(), "{form}");
+    }
+    Ok(())
+}
+
+#[test]
+fn words_that_are_looked_up(rt: HostRuntime) -> Result<(), Fail> {
+    let alloc = rt.alloc();
+    let words = form_words(alloc, b"a=b,%63&d&=e%FF&f=%EF%BF%BD+g&=h=i+j%2Bk&l=")?;
+    let wanted = [b"b".as_slice(), b"c", b"h", b"i", b"j+k"];
+    assert_eq!(rt; words.len(), wanted.len());
+    for (place, word) in wanted.iter().enumerate() {
+        assert!(rt; place < words.len());
+        assert_eq!(rt; words.at(place), *word);
+    }
+    let words = words_in(alloc, b" a,b+c\n")?;
+    let wanted = [b"a".as_slice(), b"b+c"];
+    assert_eq!(rt; words.len(), wanted.len());
+    for (place, word) in wanted.iter().enumerate() {
+        assert!(rt; place < words.len());
+        assert_eq!(rt; words.at(place), *word);
     }
     Ok(())
 }

@@ -4,7 +4,8 @@ ghost use Rattle.rd_toy.specs.ToyGrammar.{toy};
 
 use crate::Toy;
 use rd_base::{
-    Bytes, Cursor, NoMemory, Note, Part, Phase, Row, Rows, Scan, TokenKind, TokenSpan, is_row_word,
+    Beside, Bytes, Cursor, NoMemory, Note, Part, Phase, Row, Rows, Scan, TokenKind, TokenSpan,
+    is_row_word,
 };
 use rd_dialect::Dialect;
 use std::alloc::Global;
@@ -191,6 +192,7 @@ fn at(place: u32) -> Cursor {
         mode: 0,
         left: 0,
         mark: 0,
+        beside: Beside::nothing(),
     }
 }
 

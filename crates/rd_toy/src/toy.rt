@@ -4,7 +4,8 @@ ghost use Rattle.std.specs.Prelude.{◌≡◌, ◌≤◌, length, ◌&&◌, ◌=
 
 use crate::scan::{early_len, scan_answer, scan_kinds, scan_nothing, scan_until_end};
 use rd_base::{
-    Bytes, Cursor, NoMemory, Note, Part, Phase, Rows, Scan, TokenSpan, WordCut, Words, cut_at,
+    Beside, Bytes, Cursor, NoMemory, Note, Part, Phase, Rows, Scan, TokenSpan, WordCut, Words,
+    cut_at,
 };
 use rd_dialect::{Dialect, Line};
 use rd_token_map::swap_words;
@@ -162,12 +163,13 @@ fn is_open(cut: WordCut, len: usize, whole: bool) -> bool
 }
 
 fn cursor_at(at: u32) -> Cursor
-    ensures { result ≡ record { at = at; mode = 0; left = 0; mark = 0 } }
+    ensures { result ≡ record { at = at; mode = 0; left = 0; mark = 0; beside = record { from = 0; to = 0; at = 0; left = 0 } } }
 {
     Cursor {
         at,
         mode: 0,
         left: 0,
         mark: 0,
+        beside: Beside::nothing(),
     }
 }

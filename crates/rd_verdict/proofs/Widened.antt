@@ -47,7 +47,7 @@ fault_wide most limits lists place e = alone (position (λ tokens. one_alone (sl
     alone (Some copy) e = absurd (cc e)
 
 -- the verdict over so many places without a fault
-verdict_free : (most : MaskLimits) (lists : List (List Token)) (place count : ℕ) → ((p : ℕ) → place ≤ p → p < place + count → fault most lists p ≡ None) → verdict_from most lists place count ≡ Agreed (masked_below lists (place + count))
+pub verdict_free : (most : MaskLimits) (lists : List (List Token)) (place count : ℕ) → ((p : ℕ) → place ≤ p → p < place + count → fault most lists p ≡ None) → verdict_from most lists place count ≡ Agreed (masked_below lists (place + count))
 verdict_free most lists place zero none = let same_place : place ≡ place + 0 = omega arith in ap (λ p. Agreed (masked_below lists p)) same_place
 verdict_free most lists place (suc count) none =
     let shift : suc place + count ≡ place + suc count = omega arith in

@@ -12,6 +12,7 @@ use Rattle.rd_reading.specs.Seen.{rules_of, seen_front, seen_request}
 use Rattle.rd_core.specs.Stages.{seen_stage}
 use Rattle.rd_core.specs.Standing.{next_reading, late_at}
 use Rattle.rd_core.specs.Clocks.{standing, entry_of}
+use Rattle.rd_core.specs.OwnLists.{latest_of}
 use Rattle.rd_core.proofs.Moves.{moved, has_more, has_room_asking, units_after, is_out_after, is_some-map}
 use Rattle.rd_core.proofs.session.move_of.Goals as goal
 
@@ -29,7 +30,7 @@ returns-clause-goes g c =
     let next_is : next ≡ next_reading rules (seen_stage stage own) e = ap (rule.read grammar limits.mask (limits.exchanges_max - stage.count)) c.in_ok-front.ensures in
     let out : c.is_some.result ≡ is_some (option_map seen_request stage.out) = c.is_some.ensures ∙ sym (is_some-map seen_request stage.out) in
     record {
-      at = moved rules stage plan.stage own plan.rows c.args.clock c.clock_after-clock.result e next next_is c.in_ok-later.ensures.stage c.clock_after-clock.ensures.entries c.clock_after-clock.ensures.moment c.clock_after-clock.ensures.began;
+      at = moved rules stage plan.stage own (latest_of own plan.own) c.args.clock c.clock_after-clock.result e next next_is c.in_ok-later.ensures.stage c.clock_after-clock.ensures.entries c.clock_after-clock.ensures.moment c.clock_after-clock.ensures.began;
       ending = c.ending_of-ending.ensures
           ∙ ap (λ t. or_else (or_else (fault_by limits.copies e.what) (late_at c.args.setup.now.side limits (is_timer e.what) (standing plan.stage [] c.clock_after-clock.result))) (or_else t (full_log_at c.clock_after-clock.result.entries))) c.in_ok-later.ensures.trouble;
       sent = c.in_ok-later.ensures.sends

@@ -9,7 +9,7 @@ use Rattle.rd_rules.specs.Wanted.{add_word, unknown_words}
 use Rattle.rd_reading.specs.declared.exchange.DoneExchange.{DoneExchange}
 use Rattle.rd_reading.specs.declared.exchange.Request.{Request}
 use Rattle.rd_reading.specs.Seen.{seen_request, seen_exchange, rules_of, rows_are}
-use Rattle.rd_core.specs.Sending.{latest_of}
+use Rattle.rd_core.specs.OwnLists.{latest_of}
 use Rattle.rd_core.proofs.Asked.{words_step, no_words, length-taken}
 use Rattle.rd_core.proofs.wanted.words_in.Goals as goal
 
@@ -32,7 +32,7 @@ loop-exchange-preserved g c =
     c.in_ok-later.ensures ∙ ap (learnt before) here in
     let rel : Release = record { ask = seen_request x.request; own = before } in
     let added : c.push_fresh.new.words ≡ take 4096 (fold add_word c.loop-exchange.words (flat_map f (drop (sent_before c.loop-exchange.skips) (rel ∷ [])))) =
-    c.in_ok-push_fresh.ensures ∙ ap (λ (o : List Row). take 4096 (fold add_word c.loop-exchange.words (flat_map f (drop (sent_before c.loop-exchange.skips) (record { ask = seen_request x.request; own = o } ∷ []))))) c.latest-rows.ensures in
+    c.in_ok-push_fresh.ensures ∙ ap (λ (o : List Row). take 4096 (fold add_word c.loop-exchange.words (flat_map f (drop (sent_before c.loop-exchange.skips) (record { ask = seen_request x.request; own = o } ∷ []))))) (c.rows-rows.ensures.rows ∙ c.latest.ensures) in
     let rels = releases rules own (map seen_exchange (drop (i + 1) done)) out in
     record {
       words = ap (λ ws. take 4096 (fold add_word ws (flat_map f rels))) added
@@ -53,7 +53,7 @@ returns g c =
     let none : drop c.loop-exchange.exchange-index done ≡ [] =
     drop_all c.loop-exchange.exchange-index done (omega (arith, c.loop-exchange-test.false, ap length c.as_slice-exchange-items.ensures.value)) in
     c.in_ok-push_fresh-2.ensures
-    ∙ ap (λ (o : List Row). take 4096 (fold add_word c.loop-exchange.words (flat_map f (drop (sent_before c.loop-exchange.skips) (record { ask = seen_request c.in-Some.request; own = o } ∷ []))))) c.latest-rows-2.ensures
+    ∙ ap (λ (o : List Row). take 4096 (fold add_word c.loop-exchange.words (flat_map f (drop (sent_before c.loop-exchange.skips) (record { ask = seen_request c.in-Some.request; own = o } ∷ []))))) (c.rows-rows-2.ensures.rows ∙ c.latest-2.ensures)
     ∙ ap₂ (λ (xs : List DoneExchange) (out : Option Request). take 4096 (fold add_word c.loop-exchange.words (flat_map f (drop (sent_before c.loop-exchange.skips) (releases rules own (map seen_exchange xs) (option_map seen_request out)))))) (sym none) (sym c.in-Some.is)
     ∙ c.loop-exchange.invariant.words
 

@@ -5,7 +5,7 @@ use Rattle.rd_rules.specs.Given.{releases}
 use Rattle.rd_rules.specs.Step.{sent_before}
 use Rattle.rd_rules.specs.Wanted.{add_word, unknown_words, words_read}
 use Rattle.rd_reading.specs.Seen.{seen_request, seen_exchange, seen_reading, rules_of, rows_are}
-use Rattle.rd_core.specs.Sending.{latest_of}
+use Rattle.rd_core.specs.OwnLists.{latest_of}
 use Rattle.rd_core.proofs.wanted.words_in.Given as goal
 
 abbrev pub invariant-loop-exchange : goal.invariant-loop-exchange

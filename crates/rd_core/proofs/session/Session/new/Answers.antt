@@ -1,7 +1,6 @@
 use Rattle.std.proofs.Common.{◌≡◌, ◌+◌, ◌-◌, ap, ap₂, sym, ◌∙◌, arith, refl, false, [], None, ℕ}
 use Rattle.std.specs.Prelude.{option_map}
 use Rattle.rd_rules.specs.Exchange as rule
-use Rattle.rd_rules.specs.Given.{learnt}
 use Rattle.rd_rules.specs.Trouble.{Now}
 use Rattle.rd_rules.specs.Step.{masked_now}
 use Rattle.rd_rules.proofs.Outs.{short_out}
@@ -41,13 +40,12 @@ returns-clause-at g c =
     let most = c.args.setup.limits in
     let plan = c.in_ok-plan.plan in
     let none : most.exchanges_max - 0 ≡ most.exchanges_max = omega arith in
-    let own = c.rows.ensures.rows ∙ c.in_ok-own.ensures in
-    start_at rules (record { dialect = c.args.dialect; setup = c.args.setup; at = standing plan.stage c.learn_all.new.own (record { entries = 0; moment = 0; began = 0 }); tally = record { masked = plan.masked; rows = c.new-2.result }; ending = plan.trouble })
-    (ap (seen_stage plan.stage) (c.learn_all.ensures ∙ ap (λ o. learnt o plan.rows) (sym c.rows.ensures.rows))
+    start_at rules (record { dialect = c.args.dialect; setup = c.args.setup; at = standing plan.stage c.unwrap_or.result (record { entries = 0; moment = 0; began = 0 }); tally = record { masked = plan.masked; rows = c.new.result }; ending = plan.trouble })
+    (ap (seen_stage plan.stage) c.unwrap_or.ensures
     ∙ c.in_ok-plan.ensures.stage
-    ∙ ap₂ (λ o f. now_from rules 0 false o (rule.read grammar most.mask f (seen_front c.in_ok-front.front))) own none
+    ∙ ap₂ (λ o f. now_from rules 0 false o (rule.read grammar most.mask f (seen_front c.in_ok-front.front))) c.new-own.ensures none
     ∙ ap (λ f. now_from rules 0 false [] (rule.read grammar most.mask most.exchanges_max f)) c.in_ok-front.ensures
     ∙ first_stage rules (rule.reading rules []))
     refl refl refl
     (c.in_ok-plan.ensures.masked ∙ ap₂ (λ (n : ℕ) (f : rule.Front). masked_now c.args.setup.side rules false (rule.read grammar most.mask n f)) none c.in_ok-front.ensures ∙ masked_first c.args.setup.side rules (rule.reading rules []))
-    c.new-2.ensures c.in_ok-plan.ensures.trouble
+    c.new.ensures c.in_ok-plan.ensures.trouble

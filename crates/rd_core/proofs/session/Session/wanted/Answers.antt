@@ -1,7 +1,7 @@
-use Rattle.std.proofs.Common.{◌≡◌, ◌∷◌, ◌++◌, [], List, ℕ, Bool, true, Some, None, Result, Ok, Err, ap, ap₂, sym, ◌∙◌}
+use Rattle.std.proofs.Common.{◌≡◌, ◌∷◌, ◌++◌, [], List, ℕ, Bool, true, Some, None, Result, Ok, Err, ap, sym, ◌∙◌}
 use Rattle.std.specs.Prelude.{is_some, IfOk}
 use Rattle.rd_base.specs.declared.bytes.NoMemory.{NoMemory}
-use Rattle.rd_base.specs.History.{Entry, Row, is_well_formed}
+use Rattle.rd_base.specs.History.{Entry, is_well_formed}
 use Rattle.rd_rules.specs.Trouble.{unsolicited_by}
 use Rattle.rd_rules.specs.Wanted.{wanted, words_read}
 use Rattle.rd_reading.specs.Seen.{rules_of, seen_request}
@@ -54,8 +54,8 @@ returns-in-None g c =
     sym (ap (λ v. unsolicited_by (g.D.Dialect.grammar v.dialect) v.at.stage what) c.self.view_is) ∙ sym c.in_ok-unsolicited.ensures ∙ c.in-None.is in
     let in_rules = rules_of (g.D.Dialect.grammar c.self.inside.dialect) c.self.inside.setup in
     let stage = c.self.inside.stage in
-    let here : words_read in_rules c.rows.result.now (is_some stage.out) (next_reading in_rules (seen_stage stage c.self.inside.own) e) ≡ words_read rules old.at.stage.own (is_some old.at.stage.out) (next_reading rules old.at.stage e) =
-    ap₂ (λ (o : List Row) (b : Bool). words_read in_rules o b (next_reading in_rules (seen_stage stage c.self.inside.own) e)) c.rows.ensures.rows (sym (is_some-map seen_request stage.out))
+    let here : words_read in_rules c.self.inside.own (is_some stage.out) (next_reading in_rules (seen_stage stage c.self.inside.own) e) ≡ words_read rules old.at.stage.own (is_some old.at.stage.out) (next_reading rules old.at.stage e) =
+    ap (λ (b : Bool). words_read in_rules c.self.inside.own b (next_reading in_rules (seen_stage stage c.self.inside.own) e)) (sym (is_some-map seen_request stage.out))
     ∙ ap (λ v. words_read (rules_of (g.D.Dialect.grammar v.dialect) v.setup) v.at.stage.own (is_some v.at.stage.out) (next_reading (rules_of (g.D.Dialect.grammar v.dialect) v.setup) v.at.stage e)) c.self.view_is in
     map_ok c.words_next.result _ (λ words. (h : List Entry) → is_well_formed old.setup.limits.copies (h ++ e ∷ []) ≡ true → IsAt rules old h → words ≡ wanted rules h e)
     (λ words is h w at. is ∙ here ∙ wanted_on rules (g.met.D.Dialect.lawful old.dialect) old h at e w live on)

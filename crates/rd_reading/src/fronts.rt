@@ -1,0 +1,66 @@
+ghost use Rattle.std.specs.Prelude.{◌≡◌, true, IfSome};
+ghost use Rattle.rd_dialect.specs.Due.{IsDue};
+ghost use Rattle.rd_rules.specs.Exchange as rule;
+ghost use Rattle.rd_reading.specs.Alike.{HaveFronts, in_front, all_in_front};
+
+use crate::opens::{Open, scan_open};
+use rd_base::Scan;
+use rd_dialect::{Dialect, Due};
+
+/// Whether all that the due links have said of their units is the front of one unit, or of one part of a unit: true
+/// only if so.
+pub(crate) fn have_fronts<D: Dialect>(dialect: &D, due: Due, opens: &[Open]) -> bool
+    ensures { result ≡ true → HaveFronts (D.grammar dialect.now) due opens.now }
+{
+    match longest(dialect, due, opens) {
+        Some((top, whole)) => are_in_front(dialect, due, whole, top, opens),
+        None => false,
+    }
+}
+
+/// The longest of what the links have said of their units, and whether it is a whole unit. None where nothing that
+/// they said begins one.
+fn longest<'a, D: Dialect>(dialect: &D, due: Due, opens: &'a [Open]) -> Option<(&'a [u8], bool)>
+    ensures { IfSome result (λ said. IsDue (D.grammar dialect.now) due said.0.now said.1) }
+{
+    let mut longest: Option<(&[u8], bool)> = None;
+    for one in opens {
+        if let Some((bytes, whole)) = said(dialect, due, one) {
+            match longest {
+                Some((top, _)) if bytes.len() <= top.len() => {}
+                _ => longest = Some((bytes, whole)),
+            }
+        }
+    }
+    longest
+}
+
+/// What is there of a link's due unit, and whether it is whole. None where no unit can come of its bytes.
+fn said<'a, D: Dialect>(dialect: &D, due: Due, one: &'a Open) -> Option<(&'a [u8], bool)>
+    ensures { IfSome result (λ said. IsDue (D.grammar dialect.now) due said.0.now said.1) }
+{
+    match scan_open(dialect, due, one) {
+        Scan::Whole(len) => Some((&one.bytes()[..len], true)),
+        Scan::More => Some((one.bytes(), false)),
+        Scan::Bad | Scan::TooBig | Scan::Unsupported(_) => None,
+    }
+}
+
+fn are_in_front<D: Dialect>(dialect: &D, due: Due, whole: bool, top: &[u8], opens: &[Open]) -> bool
+    ensures { result ≡ all_in_front (D.grammar dialect.now) due whole top.now opens.now }
+{
+    opens
+        .iter()
+        .all(|one| is_in_front(dialect, due, whole, top, one))
+}
+
+fn is_in_front<D: Dialect>(dialect: &D, due: Due, whole: bool, top: &[u8], one: &Open) -> bool
+    ensures { result ≡ in_front whole top.now (rule.scan_open (D.grammar dialect.now) due one.now) one.now.bytes }
+{
+    let bytes = one.bytes();
+    match scan_open(dialect, due, one) {
+        Scan::Whole(len) => whole && &bytes[..len] == top,
+        Scan::More => bytes.len() <= top.len() && bytes == &top[..bytes.len()],
+        Scan::Bad | Scan::TooBig | Scan::Unsupported(_) => true,
+    }
+}
