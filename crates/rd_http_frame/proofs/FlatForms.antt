@@ -13,7 +13,7 @@ use Rattle.rd_http_frame.specs.declared.chunk.SizeLine.{SizeLine}
 use Rattle.rd_http_frame.specs.declared.unit.FinalHead.{FinalHead}
 use Rattle.rd_http_frame.specs.Chunks.{size_line, data_line, chunk_data, trailer_from}
 use Rattle.rd_http_frame.specs.Units.{IsFinalHead, rule_in}
-use Rattle.rd_http_frame.specs.Flats.{body_data, behind_last, trailer_of, with_length, flat_body, flat_behind, IsFlat}
+use Rattle.rd_http_frame.specs.Flats.{body_data, behind_last, trailer_of, with_length, flat_body, answers_head, flat_behind, IsFlat}
 use Rattle.rd_http_frame.specs.FlatLaws.{AreFlatForms}
 use Rattle.rd_http_frame.proofs.HeadCuts.{take_cut}
 use Rattle.rd_http_frame.proofs.ChunkSteps.{line_fits}
@@ -23,7 +23,7 @@ use Rattle.rd_http_frame.proofs.FinalOnce.{final_once, final_fits, final_stays}
 
 flat_once : (part : Part) (head_request : Bool) (bytes : List ℕ) (whole : Bool) (a b : List ℕ) → IsFlat part head_request bytes whole a → IsFlat part head_request bytes whole b → a ≡ b
 flat_once part head_request bytes whole a b x y =
-    x.2 ∙ ap (flat_behind head_request bytes whole) (final_once part bytes x.0 y.0 x.1 y.1) ∙ sym y.2
+    x.2 ∙ ap (flat_behind (answers_head part head_request) bytes whole) (final_once part bytes x.0 y.0 x.1 y.1) ∙ sym y.2
 
 -- ---- a part's begins the whole's
 
@@ -81,13 +81,13 @@ data_begins (suc k) bytes more h = by (data_line (size_line bytes)) refl (λ res
                   ∙ ap (λ (t : List ℕ). t ++ later.0) (sym here),
             )
 
-body_begins : (rule : BodyRule) (bytes more : List ℕ) → (r : List ℕ) × (body_data rule (bytes ++ more) ≡ body_data rule bytes ++ r)
+pub body_begins : (rule : BodyRule) (bytes more : List ℕ) → (r : List ℕ) × (body_data rule (bytes ++ more) ≡ body_data rule bytes ++ r)
 body_begins Empty bytes more = ([], refl)
 body_begins (Length size) bytes more = take_cut size bytes more
 body_begins Chunked bytes more = data_begins (length bytes) bytes more (omega arith)
 body_begins UntilEnd bytes more = (more, refl)
 
-slice_stays : (bytes more : List ℕ) (m n : ℕ) → m ≤ n → n ≤ length bytes → slice_range (bytes ++ more) m n ≡ slice_range bytes m n
+pub slice_stays : (bytes more : List ℕ) (m n : ℕ) → m ≤ n → n ≤ length bytes → slice_range (bytes ++ more) m n ≡ slice_range bytes m n
 slice_stays bytes more m n order room =
     ap (λ (t : List ℕ). take (n - m) t) (drop-append-le m bytes more (omega (arith, order, room)))
     ∙ take-append-le (n - m) (drop m bytes) more (omega (arith, length-drop m bytes, order, room))
@@ -128,15 +128,15 @@ behind_begins head_request bytes more whole head order room =
 flat_begins : (part : Part) (head_request : Bool) (bytes more : List ℕ) (whole : Bool) (flat later : List ℕ) → IsFlat part head_request bytes false flat → IsFlat part head_request (bytes ++ more) whole later → IsPrefixOf flat later
 flat_begins part head_request bytes more whole flat later x y = by x.0 x.1 x.2
   where
-    by : (r : Result FinalHead Scan) → IsFinalHead part bytes r → flat ≡ flat_behind head_request bytes false r → IsPrefixOf flat later
+    by : (r : Result FinalHead Scan) → IsFinalHead part bytes r → flat ≡ flat_behind (answers_head part head_request) bytes false r → IsPrefixOf flat later
     by (Err stop) f e = record { rest = later; is = ap (λ (t : List ℕ). t ++ later) e }
     by (Ok head) f e =
         let fits = final_fits part bytes (Ok head) head f refl in
         let same = final_once part (bytes ++ more) (Ok head) y.0 (final_stays part bytes more (Ok head) head f refl) y.1 in
-        let begins = behind_begins head_request bytes more whole head (omega (arith, fits.0)) fits.1 in
+        let begins = behind_begins (answers_head part head_request) bytes more whole head (omega (arith, fits.0)) fits.1 in
         record {
           rest = begins.rest;
-          is = ap (λ (t : List ℕ). t ++ begins.rest) e ∙ begins.is ∙ ap (flat_behind head_request (bytes ++ more) whole) same ∙ sym y.2;
+          is = ap (λ (t : List ℕ). t ++ begins.rest) e ∙ begins.is ∙ ap (flat_behind (answers_head part head_request) (bytes ++ more) whole) same ∙ sym y.2;
         }
 
 -- ---- sizes
@@ -181,10 +181,10 @@ end_size false trailer = omega arith
 flat_size : (part : Part) (head_request : Bool) (bytes : List ℕ) (whole : Bool) (flat : List ℕ) → IsFlat part head_request bytes whole flat → length flat ≤ 3 * length bytes + 4
 flat_size part head_request bytes whole flat x = by x.0 x.2
   where
-    by : (r : Result FinalHead Scan) → flat ≡ flat_behind head_request bytes whole r → length flat ≤ 3 * length bytes + 4
+    by : (r : Result FinalHead Scan) → flat ≡ flat_behind (answers_head part head_request) bytes whole r → length flat ≤ 3 * length bytes + 4
     by (Err stop) e = omega (arith, ap length e)
     by (Ok head) e =
-        let rule = rule_in head_request head.body in
+        let rule = rule_in (answers_head part head_request) head.body in
         let rest = drop head.to bytes in
         let front = slice_range bytes head.from head.to in
         let trailer = trailer_of rule rest in

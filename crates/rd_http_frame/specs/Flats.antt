@@ -1,9 +1,10 @@
 -- The flat form of a request or a reply, in which its tokens lie: the final head, the body without the framing
 -- of chunks, the trailer with its empty line, and the trailer's length. Interim heads are in none.
-use Rattle.std.specs.Prelude.{◌≡◌, ℕ, Bool, if◌then◌else◌, List, [], ◌++◌, length, take, drop, slice_range, Result, Ok, Err}
+use Rattle.std.specs.Prelude.{◌≡◌, ℕ, Bool, false, if◌then◌else◌, List, [], ◌++◌, length, take, drop, slice_range, Result, Ok, Err}
 use Rattle.std.specs.Int.{to_be_bytes, w32}
 use Rattle.rd_base.specs.declared.values.Scan.{Scan}
 use Rattle.rd_base.specs.declared.values.Part.{Part}
+use Rattle.rd_base.specs.declared.values.Part.TheVariants.{Request, Reply}
 use Rattle.rd_http_frame.specs.declared.body.BodyRule.{BodyRule}
 use Rattle.rd_http_frame.specs.declared.body.BodyRule.TheVariants.{Empty, Length, Chunked, UntilEnd}
 use Rattle.rd_http_frame.specs.declared.unit.FinalHead.{FinalHead}
@@ -38,6 +39,11 @@ with_length trailer = trailer ++ to_be_bytes w32 (length trailer)
 abbrev pub flat_body : BodyRule → List ℕ → Bool → List ℕ
 flat_body rule bytes whole = body_data rule bytes ++ (if whole then with_length (trailer_of rule bytes) else [])
 
+-- the reply to a HEAD has no body; a HEAD itself may have one: RFC 9110, section 9.3.2
+abbrev pub answers_head : Part → Bool → Bool
+answers_head Request head_request = false
+answers_head Reply head_request = head_request
+
 -- nothing is there before the final head is whole
 abbrev pub flat_behind : Bool → List ℕ → Bool → Result FinalHead Scan → List ℕ
 flat_behind head_request bytes whole (Ok head) =
@@ -47,4 +53,5 @@ flat_behind head_request bytes whole (Err scan) = []
 -- the flat form of a whole unit, or of a part of one
 abbrev pub IsFlat : Part → Bool → List ℕ → Bool → List ℕ → Type 0
 IsFlat part head_request bytes whole flat =
-    (found : Result FinalHead Scan) × IsFinalHead part bytes found × (flat ≡ flat_behind head_request bytes whole found)
+    (found : Result FinalHead Scan) × IsFinalHead part bytes found
+    × (flat ≡ flat_behind (answers_head part head_request) bytes whole found)

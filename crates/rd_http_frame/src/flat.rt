@@ -2,7 +2,7 @@ ghost use Rattle.std.specs.Prelude.{◌≡◌, ◌≤◌, ◌+◌, ◌*◌, ◌+
 ghost use Rattle.rd_base.specs.Outside.{IsPrefixOf};
 ghost use Rattle.rd_http_frame.specs.Chunks.{chunk_data, trailer_from};
 ghost use Rattle.rd_http_frame.specs.FlatLaws.{AreFlatForms};
-ghost use Rattle.rd_http_frame.specs.Flats.{body_data, trailer_of, behind_last, with_length, flat_body, flat_behind, IsFlat};
+ghost use Rattle.rd_http_frame.specs.Flats.{body_data, trailer_of, behind_last, with_length, flat_body, answers_head, flat_behind, IsFlat};
 ghost use Rattle.std.specs.Prelude.{Ok};
 
 use crate::body::BodyRule;
@@ -14,7 +14,8 @@ use rd_base::{Bytes, NoMemory, Part};
 
 /// Appends the flat form of a whole request or reply (`whole`), or of a part of one: the final head, the body
 /// without the framing of chunks, and at a whole one's end the trailer and its length in four bytes, the high
-/// one first. On refusal `out` is as before.
+/// one first. `head_request` says that a reply answers a HEAD, so that it has no body; for a request it isn't
+/// looked at. On refusal `out` is as before.
 pub fn flat_into(
     part: Part,
     head_request: bool,
@@ -32,11 +33,21 @@ pub fn flat_into(
         return Ok(());
     };
     let before = out.len();
-    let pushed = push_flat(head_request, head, bytes, whole, out);
+    let pushed = push_flat(answers_head(part, head_request), head, bytes, whole, out);
     if pushed.is_err() {
         out.truncate(before);
     }
     pushed
+}
+
+/// Whether these are the bytes of a reply to HEAD.
+fn answers_head(part: Part, head_request: bool) -> bool
+    ensures { result ≡ answers_head part head_request }
+{
+    match part {
+        Part::Request => false,
+        Part::Reply => head_request,
+    }
 }
 
 /// Appends the flat form with this final head. On refusal a part of it may stand.
@@ -62,7 +73,7 @@ fn push_body(rule: BodyRule, bytes: &[u8], whole: bool, out: &mut Bytes) -> Resu
     ensures ok { OnOk result (out.new ≡ out.old ++ flat_body rule bytes.now whole) }
     ensures err { OnErr result (IsPrefixOf out.old out.new) }
 {
-    push_data(rule, bytes, out)?;
+    data_into(rule, bytes, out)?;
     if whole {
         push_with_length(trailer_of(rule, bytes), out)
     } else {
@@ -70,8 +81,8 @@ fn push_body(rule: BodyRule, bytes: &[u8], whole: bool, out: &mut Bytes) -> Resu
     }
 }
 
-/// Appends the bytes of the body.
-fn push_data(rule: BodyRule, bytes: &[u8], out: &mut Bytes) -> Result<(), NoMemory>
+/// Appends the bytes of the body. On refusal a part of them may stand.
+pub fn data_into(rule: BodyRule, bytes: &[u8], out: &mut Bytes) -> Result<(), NoMemory>
     ensures ok { OnOk result (out.new ≡ out.old ++ body_data rule bytes.now) }
     ensures err { OnErr result (IsPrefixOf out.old out.new) }
 {
@@ -98,7 +109,7 @@ fn push_chunks(bytes: &[u8], out: &mut Bytes) -> Result<(), NoMemory>
 }
 
 /// The trailer, where the body has one.
-fn trailer_of(rule: BodyRule, bytes: &[u8]) -> &[u8]
+pub fn trailer_of(rule: BodyRule, bytes: &[u8]) -> &[u8]
     ensures is { result.now ≡ trailer_of rule bytes.now }
     ensures few { length result.now ≤ 65536 }
 {

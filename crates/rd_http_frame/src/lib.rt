@@ -14,11 +14,11 @@ mod trailer;
 mod unit;
 
 pub use body::{BodyRule, body_rule};
-pub use flat::flat_into;
+pub use flat::{data_into, flat_into, trailer_of};
 pub use head::Head;
 pub use place::{FieldSpan, Span};
 pub use scan::scan_head;
-pub use unit::{scan_reply, scan_request, shown_from};
+pub use unit::{FinalHead, final_head, scan_reply, scan_request, shown_from};
 
 #[cfg(test)]
 mod tests;

@@ -79,14 +79,14 @@ fn scan_unit(part: Part, head_request: bool, bytes: &[u8], ended: bool) -> Scan
 
 /// A head behind its interim ones, and where its body ends.
 #[derive(Clone, Copy, Debug, PartialEq, Eq)]
-pub(crate) struct FinalHead {
+pub struct FinalHead {
     pub from: usize,
     pub to: usize,
     pub body: BodyRule,
 }
 
 /// The final head, or what the bytes come to without it.
-pub(crate) fn final_head(part: Part, bytes: &[u8]) -> Result<FinalHead, Scan>
+pub fn final_head(part: Part, bytes: &[u8]) -> Result<FinalHead, Scan>
     ensures head { IsFinalHead part bytes.now result }
     ensures ordered { IfOk result (λ head. head.from ≤ head.to) }
     ensures within { IfOk result (λ head. head.to ≤ length bytes.now) }

@@ -3,17 +3,18 @@ use rd_base::{Bytes, NoMemory, Part, Scan};
 use std::alloc::{AllocError, Global};
 use std::process::Abort;
 
-/// A request, or the reply to HEAD or to another request.
+/// A request, a HEAD among them, or the reply to HEAD or to another request.
 #[derive(Clone, Copy, Debug, PartialEq, Eq)]
 enum Unit {
     Request,
+    HeadRequest,
     Reply,
     HeadReply,
 }
 
 fn scan(unit: Unit, bytes: &[u8], ended: bool) -> Scan {
     match unit {
-        Unit::Request => scan_request(bytes),
+        Unit::Request | Unit::HeadRequest => scan_request(bytes),
         Unit::Reply => scan_reply(false, bytes, ended),
         Unit::HeadReply => scan_reply(true, bytes, ended),
     }
@@ -284,6 +285,7 @@ fn flattens(
 ) -> Result<(), NoMemory> {
     let (part, head_request) = match unit {
         Unit::Request => (Part::Request, false),
+        Unit::HeadRequest => (Part::Request, true),
         Unit::Reply => (Part::Reply, false),
         Unit::HeadReply => (Part::Reply, true),
     };
@@ -297,7 +299,13 @@ fn flattens(
 
 #[test]
 fn flat_forms(rt: HostRuntime) -> Result<(), NoMemory> {
-    let rows: [(Unit, bool, &[u8], &[u8]); 9] = [
+    let rows: [(Unit, bool, &[u8], &[u8]); 10] = [
+        (
+            Unit::HeadRequest,
+            true,
+            b"HEAD / HTTP/1.1\r\nContent-Length: 5\r\n\r\nabcde",
+            b"HEAD / HTTP/1.1\r\nContent-Length: 5\r\n\r\nabcde\x00\x00\x00\x00",
+        ),
         (
             Unit::Request,
             true,

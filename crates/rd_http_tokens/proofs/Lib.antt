@@ -1,0 +1,13 @@
+pub mod Values
+pub mod Told
+pub mod Declared
+pub mod Shown
+pub mod ValueFound
+pub mod Starts
+pub mod Trailing
+pub mod InFlat
+pub mod Nexts
+pub mod Lines
+pub mod StartLines
+pub mod LookedUp
+pub mod HeadTokens

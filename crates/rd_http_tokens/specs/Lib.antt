@@ -1,0 +1,13 @@
+pub mod Tokens
+pub mod TokenLaws
+pub mod HttpGrammar
+pub mod HttpLawful
+pub mod Steps
+pub mod BodySteps
+pub mod ValueSteps
+pub mod StartSteps
+pub mod Copied
+pub mod CopyLaws
+pub mod HttpOn
+pub mod HeadTokens
+pub mod Rows
