@@ -5,8 +5,8 @@ use Rattle.std.proofs.lemmas.List.{take-append-le, drop-append-le, drop-take, ta
 use Rattle.rd_base.specs.Scans.{and_then}
 use Rattle.rd_base.specs.declared.values.Scan.{Scan}
 use Rattle.rd_base.specs.declared.values.Scan.TheVariants.{More, Bad}
-use Rattle.rd_pg_frame.specs.declared.place.Role.{Role}
-use Rattle.rd_pg_frame.specs.declared.place.Role.TheVariants.{Inner, Last, Authentication, Status}
+use Rattle.rd_pg_frame.specs.declared.role.Role.{Role}
+use Rattle.rd_pg_frame.specs.declared.role.Role.TheVariants.{Inner, Last, Authentication, Status}
 use Rattle.rd_pg_frame.specs.declared.front.Front.{Front}
 use Rattle.rd_pg_frame.specs.Letters.{Letters}
 use Rattle.rd_pg_frame.specs.Messages.{be_u32, is_length}

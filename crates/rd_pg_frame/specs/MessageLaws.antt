@@ -4,8 +4,8 @@ use Rattle.std.proofs.lemmas.List.{drop-append-le, drop-take}
 use Rattle.rd_base.specs.Scans.{behind, and_then}
 use Rattle.rd_base.specs.declared.values.Scan.{Scan}
 use Rattle.rd_base.specs.declared.values.Scan.TheVariants.{Whole, More, Bad, TooBig, Unsupported}
-use Rattle.rd_pg_frame.specs.declared.place.Role.{Role}
-use Rattle.rd_pg_frame.specs.declared.place.Role.TheVariants.{Inner, Last, Authentication, Status}
+use Rattle.rd_pg_frame.specs.declared.role.Role.{Role}
+use Rattle.rd_pg_frame.specs.declared.role.Role.TheVariants.{Inner, Last, Authentication, Status}
 use Rattle.rd_pg_frame.specs.declared.front.Front.{Front}
 use Rattle.rd_pg_frame.specs.Letters.{Letters}
 use Rattle.rd_pg_frame.specs.Messages.{be_u32, is_among}

@@ -5,8 +5,8 @@ use Rattle.std.specs.Prelude.{◌⊎◌, codes}
 use Rattle.std.proofs.Common.{inl, inr}
 use Rattle.rd_base.specs.declared.values.Side.{Side}
 use Rattle.rd_base.specs.declared.values.Side.TheVariants.{Incoming, Outgoing}
-use Rattle.rd_pg_frame.specs.declared.place.Role.{Role}
-use Rattle.rd_pg_frame.specs.declared.place.Role.TheVariants.{Inner, Last, Authentication, Status}
+use Rattle.rd_pg_frame.specs.declared.role.Role.{Role}
+use Rattle.rd_pg_frame.specs.declared.role.Role.TheVariants.{Inner, Last, Authentication, Status}
 use Rattle.rd_pg_frame.specs.Letters.{Letters, password, ready, logging_in, asking_codes, query_reply}
 use Rattle.rd_pg_frame.specs.Messages.{is_among}
 use Rattle.rd_pg_frame.specs.Fronts.{role_of, code_ends}

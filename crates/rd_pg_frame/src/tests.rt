@@ -1,3 +1,5 @@
+ghost use Rattle.std.specs.Prelude.{[], codes};
+
 use super::*;
 use crate::recorded::RECORDED;
 use rd_base::{Note, Phase, Scan, Side};
@@ -222,6 +224,58 @@ fn replies(rt: HostRuntime) {
         tells(&rt, At::Incoming(note), bytes, told, scan);
         tells(&rt, At::Outgoing(note), bytes, told, scan);
     }
+}
+
+/// The replies to a query, with CopyData among them.
+struct CopyReply;
+
+impl LetterTable for CopyReply {
+    ghost letters = { λ t. record {
+      alone = [];
+      inner = codes "TDCENIS123nstd";
+      last = [];
+      authentication = [];
+      inner_codes = [];
+      last_codes = [];
+      status = codes "Z";
+      unsupported = codes "AGHVWcv";
+    } };
+
+    fn role_of(&self, _is_first: bool, letter: u8) -> Result<Role, Scan> {
+        match letter {
+            b'T' | b'D' | b'C' | b'E' | b'N' | b'I' | b'S' => Ok(Role::Inner),
+            b'1'..=b'3' | b'n' | b's' | b't' | b'd' => Ok(Role::Inner),
+            b'Z' => Ok(Role::Status),
+            b'A' | b'G' | b'H' | b'V' | b'W' | b'c' | b'v' => Err(Scan::Unsupported(letter as u32)),
+            _ => Err(Scan::Bad),
+        }
+    }
+
+    fn code_ends(&self, code: u32) -> Result<bool, Scan> {
+        Err(Scan::Unsupported(code))
+    }
+}
+
+/// A table with one letter more than a reply to a query has: a line copied out, its tag, and the status.
+#[test]
+fn a_table_of_its_own(rt: HostRuntime) {
+    let bytes = b"d\0\0\0\x061\nC\0\0\0\x0bCOPY 1\0Z\0\0\0\x05I";
+    for n in 0..25 {
+        assert_eq!(rt;
+            scan_messages(&CopyReply, &bytes[..n]),
+            Scan::More,
+            "{n} bytes"
+        );
+    }
+    assert_eq!(rt; scan_messages(&CopyReply, bytes), Scan::Whole(25));
+    assert_eq!(rt;
+        scan_messages(&CopyReply, b"c\0\0\0\x04"),
+        Scan::Unsupported(99)
+    );
+    assert_eq!(rt;
+        scan_reply(Side::Incoming, Note(5), bytes),
+        Scan::Unsupported(100)
+    );
 }
 
 #[test]

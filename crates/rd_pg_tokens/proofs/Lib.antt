@@ -1,0 +1,4 @@
+pub mod NamedColumns
+pub mod Ranges
+pub mod Further
+pub mod Nexts

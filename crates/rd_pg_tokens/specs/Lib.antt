@@ -1,0 +1,15 @@
+pub mod Stages
+pub mod Frames
+pub mod Pieces
+pub mod Walks
+pub mod PieceLaws
+pub mod FrameLaws
+pub mod WalkLaws
+pub mod PgGrammar
+pub mod PgLawful
+pub mod Steps
+pub mod Tokens
+pub mod Meanings
+pub mod Units
+pub mod ColumnLaws
+pub mod UnitMeanings
