@@ -3,7 +3,7 @@ use Rattle.std.specs.Prelude.{ℕ, pos, negsuc, ◌&&◌, nat_le, Bool, if◌the
 use Rattle.toml.specs.Data.{Data, string, integer, Members, get_member}
 use Rattle.rd_conf.specs.declared.key.Key.{Key}
 use Rattle.rd_conf.specs.declared.settings.DialectName.{DialectName}
-use Rattle.rd_conf.specs.declared.settings.DialectName.TheVariants.{Line}
+use Rattle.rd_conf.specs.declared.settings.DialectName.TheVariants.{Line, Http, Pg}
 use Rattle.rd_conf.specs.declared.settings.SettingsFail.{SettingsFail}
 use Rattle.rd_conf.specs.declared.settings.SettingsFail.TheVariants.{Missing, WrongKind, OutOfRange}
 use Rattle.rd_conf.specs.Keys.{key_word}
@@ -27,9 +27,13 @@ abbrev pub required_integer : Key → ℕ → ℕ → Option Data → Result ℕ
 required_integer key least most None = Err (Missing key)
 required_integer key least most (Some value) = integer_of key least most value
 
--- the dialects that a settings file can name: plain lines
+-- the dialects that a settings file can name
 abbrev pub dialect_of : Key → List ℕ → Result DialectName SettingsFail
-dialect_of key word = if bytes_eq word (codes "line") then Ok Line else Err (OutOfRange key)
+dialect_of key word =
+    if bytes_eq word (codes "line") then Ok Line
+    else if bytes_eq word (codes "http") then Ok Http
+    else if bytes_eq word (codes "pg") then Ok Pg
+    else Err (OutOfRange key)
 
 abbrev pub dialect_or_line : Key → Option Data → Result DialectName SettingsFail
 dialect_or_line key None = Ok Line

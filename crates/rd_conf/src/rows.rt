@@ -80,6 +80,8 @@ fn dialect_of(value: &Value, key: Key) -> Result<DialectName, SettingsFail>
     match value.as_str() {
         None => Err(SettingsFail::WrongKind(key)),
         Some("line") => Ok(DialectName::Line),
+        Some("http") => Ok(DialectName::Http),
+        Some("pg") => Ok(DialectName::Pg),
         Some(_) => Err(SettingsFail::OutOfRange(key)),
     }
 }

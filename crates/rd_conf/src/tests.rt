@@ -149,10 +149,13 @@ fn values_of_the_wrong_kind(rt: HostRuntime) -> Result<(), Fail> {
 const DIALECTS: [(&str, &str); 8] = [
     ("version = 1\nincoming = \"line\"", "ok"),
     ("version = 1\noutgoing = \"line\"", "ok"),
-    ("version = 1\nincoming = \"http\"", "OutOfRange incoming"),
-    ("version = 1\nincoming = \"pg\"", "OutOfRange incoming"),
-    ("version = 1\noutgoing = \"http\"", "OutOfRange outgoing"),
-    ("version = 1\noutgoing = \"pg\"", "OutOfRange outgoing"),
+    ("version = 1\nincoming = \"http\"", "ok"),
+    ("version = 1\nincoming = \"pg\"", "ok"),
+    (
+        "version = 1\noutgoing = \"postgres\"",
+        "OutOfRange outgoing",
+    ),
+    ("version = 1\noutgoing = \"HTTP\"", "OutOfRange outgoing"),
     ("version = 1\nincoming = \"Line\"", "OutOfRange incoming"),
     ("version = 1\noutgoing = \"\"", "OutOfRange outgoing"),
 ];
@@ -227,7 +230,7 @@ const THE_FIRST_OF_TWO_FAULTS: [(&str, &str); 11] = [
         "OutOfRange copies",
     ),
     (
-        "version = 1\noutgoing = 1\nincoming = \"pg\"",
+        "version = 1\noutgoing = 1\nincoming = \"sql\"",
         "OutOfRange incoming",
     ),
     (

@@ -7,8 +7,8 @@ use std::test::Fail;
 
 const EVERY_KEY: &str = "version = 2
 copies = 4
-incoming = \"line\"
-outgoing = \"line\"
+incoming = \"http\"
+outgoing = \"pg\"
 unit_max = 2048
 exchanges_max = 7
 idle_ms = 11
@@ -71,8 +71,8 @@ fn limits_of_every_key(rt: HostRuntime) -> Result<(), Fail> {
         },
     };
     assert_eq!(rt; settings.limits, limits);
-    assert_eq!(rt; settings.incoming, DialectName::Line);
-    assert_eq!(rt; settings.outgoing, DialectName::Line);
+    assert_eq!(rt; settings.incoming, DialectName::Http);
+    assert_eq!(rt; settings.outgoing, DialectName::Pg);
     Ok(())
 }
 

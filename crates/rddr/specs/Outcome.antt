@@ -7,20 +7,28 @@ use Rattle.rd_base.specs.declared.values.Ending.{Ending}
 use Rattle.rd_base.specs.declared.values.Ending.TheVariants.{Done, Closed, Retired, Disagree, Noise, Malformed, TooBig, Unsupported, Unsolicited, Broken, Late, LinkFault, Stopped, FullLog, NoMemory, Unstarted}
 use Rattle.rd_base.specs.declared.values.Limits.{Limits}
 use Rattle.rd_base.specs.declared.values.Side.{Side}
+use Rattle.rd_base.specs.declared.values.Side.TheVariants.{Incoming, Outgoing}
+use Rattle.rd_base.specs.declared.names.NameRules.{NameRules}
+use Rattle.rd_dialect.specs.Grammar.{Grammar}
 use Rattle.rd_dialect.specs.LineGrammar.{line}
 use Rattle.rd_rules.specs.Exchange.{Rules}
 use Rattle.rd_rules.specs.Sent.{transcript, final}
 use Rattle.rd_conf.specs.Defaults.{default_settings}
 use Rattle.rd_conf.specs.Keys.{key_name}
 use Rattle.rd_conf.specs.Settings.{settings_of}
+use Rattle.rd_conf.specs.declared.settings.DialectName.{DialectName}
+use Rattle.rd_conf.specs.declared.settings.DialectName.TheVariants as dialect
 use Rattle.rd_conf.specs.declared.settings.Settings.{Settings}
 use Rattle.rd_conf.specs.declared.settings.SettingsFail.{SettingsFail}
 use Rattle.rd_conf.specs.declared.settings.SettingsFail.TheVariants.{NotToml, Missing, WrongKind, OutOfRange, Unknown, NoMemory as no_memory}
+use Rattle.rd_http_tokens.specs.HttpOn.{http_on}
+use Rattle.rd_pg_tokens.specs.PgGrammar.{pg}
 use Rattle.rd_script.specs.Generator.{generated}
 use Rattle.rd_script.specs.Script.{ScriptState, script_of}
 use Rattle.rddr.specs.Forms.{Form, Check, Replay, ReplayUnder, Generate, form_of}
-use Rattle.rddr.specs.Summaries.{summary, summary_text}
-use Rattle.rddr.specs.Transcripts.{transcript_text}
+use Rattle.rd_session_run.specs.Runs.{rules_for}
+use Rattle.rd_session_run.specs.Summaries.{summary, summary_text}
+use Rattle.rd_session_run.specs.Transcripts.{transcript_text}
 
 pub record Outcome : Type 0 where
   pub text : List ℕ
@@ -87,9 +95,24 @@ script_of_file copies (Some text) =
 
 -- ---- sessions
 
+-- what each dialect's name stands for, on a side and under rules of names; plain lines have no names
+unfoldable pub grammar_of : DialectName → Side → NameRules → Grammar
+grammar_of dialect.Line side names = line
+grammar_of dialect.Http side names = http_on side names
+grammar_of dialect.Pg side names = pg side names
+
+-- the dialect that settings name for a side
+abbrev pub dialect_on : Side → Settings → DialectName
+dialect_on Incoming s = s.incoming
+dialect_on Outgoing s = s.outgoing
+
+-- a session of this side, in the dialect of this name, under these rules of names and limits
+abbrev pub session_rules : DialectName → NameRules → Limits → Side → Rules
+session_rules name names limits side = rules_for side (grammar_of name side names) limits
+
 -- a session of plain lines
 abbrev pub line_rules : Limits → Side → Rules
-line_rules limits side = record { side = side; grammar = line; limits = limits }
+line_rules limits side = rules_for side line limits
 
 -- a session that is live, or ended Done, Closed or Retired, is no failure; each ending is a case
 abbrev pub status_of : Option Ending → ℕ
@@ -119,9 +142,13 @@ transcript_outcome r h = record { text = transcript_text (transcript r h); statu
 unfoldable pub summary_outcome : Rules → History → Outcome
 summary_outcome r h = record { text = summary_text (summary r h); status = status_of (final r h) }
 
--- a script, replayed in lines: the one dialect that settings can name so far
-abbrev pub script_outcome : Limits → ScriptState → Outcome
-script_outcome limits script = transcript_outcome (line_rules limits script.side) script.entries
+-- a script, replayed in the dialect of this name
+abbrev pub replay_outcome : DialectName → NameRules → Limits → ScriptState → Outcome
+replay_outcome name names limits script = transcript_outcome (session_rules name names limits script.side) script.entries
+
+-- a script, replayed under these settings, in the dialect that they name for its side
+abbrev pub script_outcome : Settings → ScriptState → Outcome
+script_outcome s script = replay_outcome (dialect_on script.side s) s.rules s.limits script
 
 -- a script of so many exchanges, made and run in lines, whatever dialect the settings name
 abbrev pub generate_under : Limits → ℕ → Outcome
@@ -138,16 +165,16 @@ outcome_after next (Err answer) = answer
 abbrev pub check_outcome : Outcome
 check_outcome = record { text = codes "ok\n"; status = 0 }
 
--- a script's file, replayed under these limits
-abbrev pub replay_under : Limits → Option (List ℕ) → Outcome
-replay_under limits file = outcome_after (script_outcome limits) (script_of_file limits.copies file)
+-- a script's file, replayed under these settings
+abbrev pub replay_under : Settings → Option (List ℕ) → Outcome
+replay_under s file = outcome_after (script_outcome s) (script_of_file s.limits.copies file)
 
 abbrev pub form_outcome : List NamedFile → Option Form → Outcome
 form_outcome files None = usage
 form_outcome files (Some (Check settings)) = outcome_after (λ s. check_outcome) (settings_of_file (file_of settings files))
-form_outcome files (Some (Replay script)) = replay_under default_settings.limits (file_of script files)
+form_outcome files (Some (Replay script)) = replay_under default_settings (file_of script files)
 form_outcome files (Some (ReplayUnder settings script)) =
-    outcome_after (λ s. replay_under s.limits (file_of script files)) (settings_of_file (file_of settings files))
+    outcome_after (λ s. replay_under s (file_of script files)) (settings_of_file (file_of settings files))
 form_outcome files (Some (Generate settings number)) =
     outcome_after (λ s. generate_under s.limits number) (settings_of_file (file_of settings files))
 

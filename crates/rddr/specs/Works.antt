@@ -10,7 +10,7 @@ use Rattle.rd_script.specs.declared.script.ScriptRefusal.{ScriptRefusal}
 use Rattle.rd_script.specs.declared.script.ScriptRefusal.TheVariants as script
 use Rattle.rddr.specs.Forms as form
 use Rattle.rddr.specs.Forms.{Form}
-use Rattle.rddr.specs.Outcome.{Outcome, usage, unread_outcome, refusal, fault_line, bad_line, check_outcome, script_outcome, generate_under}
+use Rattle.rddr.specs.Outcome.{Outcome, usage, unread_outcome, refusal, fault_line, bad_line, check_outcome, replay_outcome, generate_under}
 use Rattle.rddr.specs.declared.command.Command.{Command}
 use Rattle.rddr.specs.declared.command.Command.TheVariants as command
 use Rattle.rddr.specs.declared.refusal.Refusal.{Refusal}
@@ -19,8 +19,8 @@ use Rattle.rddr.specs.declared.replay.Fault.{Fault}
 use Rattle.rddr.specs.declared.replay.Fault.TheVariants as fault
 use Rattle.rddr.specs.declared.work.Work.{Work}
 use Rattle.rddr.specs.declared.work.Work.TheVariants.{Check, Replay, Generate}
-use Rattle.rddr.specs.declared.writing.ScriptFail.{ScriptFail}
-use Rattle.rddr.specs.declared.writing.ScriptFail.TheVariants as fail
+use Rattle.rd_session_run.specs.declared.writing.ScriptFail.{ScriptFail}
+use Rattle.rd_session_run.specs.declared.writing.ScriptFail.TheVariants as fail
 
 -- the form that a command was read from
 abbrev pub form_in : Command → Form
@@ -48,13 +48,13 @@ pub record CanGenerate (limits : Limits) (number : ℕ) : Type 0 where
 
 abbrev pub IsReady : Work → Type 0
 IsReady Check = Unit {0}
-IsReady (Replay limits script) = CanRun limits script
+IsReady (Replay dialect names limits script) = CanRun limits script
 IsReady (Generate limits number) = CanGenerate limits number
 
 -- what comes of it
 abbrev pub work_outcome : Work → Outcome
 work_outcome Check = check_outcome
-work_outcome (Replay limits script) = script_outcome limits script
+work_outcome (Replay dialect names limits script) = replay_outcome dialect names limits script
 work_outcome (Generate limits number) = generate_under limits number
 
 -- what is outcome_after where nothing is run; want of memory has no answer of its own

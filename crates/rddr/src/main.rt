@@ -3,17 +3,20 @@
 
 mod command;
 mod disk_files;
+#[cfg(test)]
+mod http_rows;
+#[cfg(test)]
+mod pg_rows;
 mod refusal;
 mod replay;
-mod run_script;
+#[cfg(test)]
+mod rows;
 #[cfg(test)]
 mod settings_tests;
 mod std_sink;
-mod summary;
 #[cfg(test)]
 mod tests;
 mod work;
-mod writing;
 
 use disk_files::DiskFiles;
 use replay::replay_main;

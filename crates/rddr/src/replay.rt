@@ -1,17 +1,20 @@
 ghost use Rattle.std.specs.Prelude.{◌≡◌, ◌≢◌, ◌≤◌, ◌↔◌, true, false, List, ℕ, map, Some, None, Err, string_bytes, IfOk, OnOk, OnErr};
 ghost use Rattle.rd_base.specs.Outside.{NamedFile, HoldsPrefix, Rose, held_with};
 ghost use Rattle.rddr.specs.Forms.{form_of};
-ghost use Rattle.rddr.specs.Outcome.{outcome, script_outcome, generate_under, status_of, usage};
+ghost use Rattle.rd_rules.specs.Sent.{transcript, final};
+ghost use Rattle.rd_session_run.specs.Transcripts.{transcript_text};
+ghost use Rattle.rddr.specs.Outcome.{outcome, session_rules, replay_outcome, generate_under, status_of, usage};
 ghost use Rattle.rddr.specs.Works.{IsReady, CanRun, CanGenerate, work_outcome, refusal_outcome, is_told};
 
 use crate::refusal::Refusal;
-use crate::run_script::run_script;
-use crate::summary::summarize;
 use crate::work::{Work, work_of};
-use crate::writing::ScriptFail;
-use rd_base::{Ending, Failed, Files, Limits, NoMemory, Sink};
+use rd_base::{Ending, Failed, Files, Limits, NameRules, NoMemory, Side, Sink};
+use rd_conf::DialectName;
 use rd_dialect::Line;
+use rd_http_tokens::Http;
+use rd_pg_tokens::Pg;
 use rd_script::{Script, generate};
+use rd_session_run::{ScriptFail, run_script, summarize};
 use std::alloc::{AllocError, Global};
 
 /// Why there is no whole answer.
@@ -92,7 +95,8 @@ pub fn replay_main<F: Files, K: Sink>(
     ensures other_words { form_of (map string_bytes words.now) ≡ None → result ≤ 3
         → (result ≡ 2) × (K.held out.new ≡ held_with (K.held out.old) usage.text) }
     ensures two { result ≡ 2 → form_of (map string_bytes words.now) ≡ None }
-    ensures four { result ≡ 4 → Rose (F.faults files.old) (F.faults files.new) × (K.held out.new ≡ K.held out.old) }
+    ensures four { result ≡ 4 → Rose (F.faults files.old) (F.faults files.new)
+        × (K.held out.new ≡ K.held out.old) }
     ensures five { result ≡ 5 → Rose (K.faults out.old) (K.faults out.new) }
     ensures files { F.files files.new ≡ F.files files.old }
     ensures reads { F.faults files.old ≤ F.faults files.new }
@@ -122,9 +126,12 @@ fn answer<F: Files, K: Sink>(
         → K.held out.new ≡ held_with (K.held out.old) (outcome (map string_bytes words.now) all).text) }
     ensures prefix { OnErr result ((all : List NamedFile) → F.files files.old ≡ Some all
         → HoldsPrefix (K.held out.old) (K.held out.new) (outcome (map string_bytes words.now) all).text) }
-    ensures other_words { OnOk result (form_of (map string_bytes words.now) ≡ None → K.held out.new ≡ held_with (K.held out.old) usage.text) }
-    ensures two { IfOk result (λ status. (status ≡ 2) ↔ (form_of (map string_bytes words.now) ≡ None)) }
-    ensures read_fail { result ≡ Err Fault.ReadFail → Rose (F.faults files.old) (F.faults files.new) × (K.held out.new ≡ K.held out.old) }
+    ensures other_words { OnOk result (form_of (map string_bytes words.now) ≡ None → K.held out.new
+        ≡ held_with (K.held out.old) usage.text) }
+    ensures two { IfOk result (λ status. (status ≡ 2) ↔ (form_of (map string_bytes words.now)
+        ≡ None)) }
+    ensures read_fail { result ≡ Err Fault.ReadFail
+        → Rose (F.faults files.old) (F.faults files.new) × (K.held out.new ≡ K.held out.old) }
     ensures write_fail { result ≡ Err Fault.WriteFail → Rose (K.faults out.old) (K.faults out.new) }
     ensures files { F.files files.new ≡ F.files files.old }
     ensures reads { F.faults files.old ≤ F.faults files.new }
@@ -144,8 +151,10 @@ fn perform<K: Sink>(alloc: Global, work: Work, out: &mut K) -> Result<u8, Fault>
     requires ready { IsReady work }
     ensures status { IfOk result (λ status. status ≡ (work_outcome work).status) }
     ensures range { IfOk result (λ status. status ≤ 1) }
-    ensures text { OnOk result (K.held out.new ≡ held_with (K.held out.old) (work_outcome work).text) }
-    ensures prefix { OnErr result (HoldsPrefix (K.held out.old) (K.held out.new) (work_outcome work).text) }
+    ensures text { OnOk result (K.held out.new ≡ held_with (K.held out.old)
+        (work_outcome work).text) }
+    ensures prefix { OnErr result (HoldsPrefix (K.held out.old) (K.held out.new)
+        (work_outcome work).text) }
     ensures read_fail { result ≢ Err Fault.ReadFail }
     ensures write_fail { result ≡ Err Fault.WriteFail → Rose (K.faults out.old) (K.faults out.new) }
     ensures writes { K.faults out.old ≤ K.faults out.new }
@@ -157,27 +166,79 @@ fn perform<K: Sink>(alloc: Global, work: Work, out: &mut K) -> Result<u8, Fault>
             out.push(b"ok\n")?;
             Ok(0)
         }
-        Work::Replay { limits, script } => replay(alloc, limits, &script, out),
+        Work::Replay {
+            dialect,
+            names,
+            limits,
+            script,
+        } => replay(alloc, dialect, &names, limits, &script, out),
         Work::Generate { limits, number } => generate_and_run(alloc, limits, number, out),
     }
 }
 
-/// Writes the transcript of a script.
-fn replay<K: Sink>(alloc: Global, limits: Limits, script: &Script, out: &mut K) -> Result<u8, Fault>
+/// Replays a script in the dialect of this name, and gives the status.
+fn replay<K: Sink>(
+    alloc: Global,
+    dialect: DialectName,
+    names: &NameRules,
+    limits: Limits,
+    script: &Script,
+    out: &mut K,
+) -> Result<u8, Fault>
     requires is_open { K.is_closed out.old ≡ false }
     requires ready { CanRun limits script.now }
-    ensures status { IfOk result (λ status. status ≡ (script_outcome limits script.now).status) }
+    ensures status { IfOk result (λ status. status ≡
+        (replay_outcome dialect names.now limits script.now).status) }
     ensures range { IfOk result (λ status. status ≤ 1) }
-    ensures text { OnOk result (K.held out.new ≡ held_with (K.held out.old) (script_outcome limits script.now).text) }
-    ensures prefix { OnErr result (HoldsPrefix (K.held out.old) (K.held out.new) (script_outcome limits script.now).text) }
+    ensures text { OnOk result (K.held out.new ≡ held_with (K.held out.old)
+        (replay_outcome dialect names.now limits script.now).text) }
+    ensures prefix { OnErr result (HoldsPrefix (K.held out.old) (K.held out.new)
+        (replay_outcome dialect names.now limits script.now).text) }
     ensures read_fail { result ≢ Err Fault.ReadFail }
     ensures write_fail { result ≡ Err Fault.WriteFail → Rose (K.faults out.old) (K.faults out.new) }
     ensures writes { K.faults out.old ≤ K.faults out.new }
     ensures stays_open { K.is_closed out.new ≡ false }
     ensures mark { K.mark out.new ≡ K.mark out.old }
 {
-    let ending = run_script(alloc, script.side(), Line, limits, script, out)?;
+    let ending = run_in_dialect(alloc, dialect, names, limits, script, out)?;
     Ok(status_of(ending))
+}
+
+/// Runs a script in the dialect of this name, and writes its transcript.
+fn run_in_dialect<K: Sink>(
+    alloc: Global,
+    dialect: DialectName,
+    names: &NameRules,
+    limits: Limits,
+    script: &Script,
+    out: &mut K,
+) -> Result<Option<Ending>, ScriptFail>
+    requires is_open { K.is_closed out.old ≡ false }
+    requires ready { CanRun limits script.now }
+    ensures ending { IfOk result (λ ending. ending ≡ final
+        (session_rules dialect names.now limits script.now.side) script.now.entries) }
+    ensures text { OnOk result (K.held out.new ≡ held_with (K.held out.old)
+        (transcript_text (transcript (session_rules dialect names.now limits script.now.side) script.now.entries))) }
+    ensures prefix { OnErr result (HoldsPrefix (K.held out.old) (K.held out.new)
+        (transcript_text (transcript (session_rules dialect names.now limits script.now.side) script.now.entries))) }
+    ensures write_fail { result ≡ Err ScriptFail.WriteFail
+        → Rose (K.faults out.old) (K.faults out.new) }
+    ensures writes { K.faults out.old ≤ K.faults out.new }
+    ensures stays_open { K.is_closed out.new ≡ false }
+    ensures mark { K.mark out.new ≡ K.mark out.old }
+{
+    let side = script.side();
+    match dialect {
+        DialectName::Line => run_script(alloc, side, Line, limits, script, out),
+        DialectName::Http => {
+            let http = Http::new(alloc, side, names)?;
+            run_script(alloc, side, http, limits, script, out)
+        }
+        DialectName::Pg => {
+            let pg = Pg::new(alloc, side, names)?;
+            run_script(alloc, side, pg, limits, script, out)
+        }
+    }
 }
 
 /// Makes a script of so many exchanges, and writes what it comes to.
@@ -191,8 +252,10 @@ fn generate_and_run<K: Sink>(
     requires ready { CanGenerate limits number }
     ensures status { IfOk result (λ status. status ≡ (generate_under limits number).status) }
     ensures range { IfOk result (λ status. status ≤ 1) }
-    ensures text { OnOk result (K.held out.new ≡ held_with (K.held out.old) (generate_under limits number).text) }
-    ensures prefix { OnErr result (HoldsPrefix (K.held out.old) (K.held out.new) (generate_under limits number).text) }
+    ensures text { OnOk result (K.held out.new ≡ held_with (K.held out.old)
+        (generate_under limits number).text) }
+    ensures prefix { OnErr result (HoldsPrefix (K.held out.old) (K.held out.new)
+        (generate_under limits number).text) }
     ensures read_fail { result ≢ Err Fault.ReadFail }
     ensures write_fail { result ≡ Err Fault.WriteFail → Rose (K.faults out.old) (K.faults out.new) }
     ensures writes { K.faults out.old ≤ K.faults out.new }
@@ -200,7 +263,7 @@ fn generate_and_run<K: Sink>(
     ensures mark { K.mark out.new ≡ K.mark out.old }
 {
     let script = generate(alloc, limits.copies, number)?;
-    let summary = summarize(alloc, limits, &script)?;
+    let summary = summarize(alloc, Side::Incoming, Line, limits, &script)?;
     out.push(summary.text(alloc)?.as_bytes())?;
     Ok(status_of(summary.ending))
 }
@@ -212,8 +275,10 @@ fn refuse<K: Sink>(alloc: Global, refusal: Refusal, out: &mut K) -> Result<u8, F
     ensures status { IfOk result (λ status. status ≡ (refusal_outcome refusal).status) }
     ensures range { IfOk result (λ status. status ≤ 3) }
     ensures two { IfOk result (λ status. (status ≡ 2) ↔ (refusal ≡ Refusal.Words)) }
-    ensures text { OnOk result (K.held out.new ≡ held_with (K.held out.old) (refusal_outcome refusal).text) }
-    ensures prefix { OnErr result (HoldsPrefix (K.held out.old) (K.held out.new) (refusal_outcome refusal).text) }
+    ensures text { OnOk result (K.held out.new ≡ held_with (K.held out.old)
+        (refusal_outcome refusal).text) }
+    ensures prefix { OnErr result (HoldsPrefix (K.held out.old) (K.held out.new)
+        (refusal_outcome refusal).text) }
     ensures silent { is_told refusal ≡ false → K.held out.new ≡ K.held out.old }
     ensures read_fail { result ≡ Err Fault.ReadFail → refusal ≡ Refusal.Unread }
     ensures write_fail { result ≡ Err Fault.WriteFail → Rose (K.faults out.old) (K.faults out.new) }

@@ -3,7 +3,7 @@ use std::alloc::Global;
 use std::test::Fail;
 
 /// The answer to these words over the settings `c` and the script `s`.
-fn answer_under(
+pub fn answer_under(
     alloc: Global,
     words: &[&str],
     settings: &str,

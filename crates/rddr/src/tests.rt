@@ -68,7 +68,7 @@ fn script_on(alloc: Global, side: &str, pieces: &[(u8, &str)]) -> Result<String,
 }
 
 /// A transcript of these sends, which ends by this line.
-fn transcript_of(
+pub fn transcript_of(
     alloc: Global,
     sends: &[(u32, u8, &str)],
     last: &str,

@@ -3,13 +3,13 @@ ghost use Rattle.rd_base.specs.History.{is_well_formed};
 ghost use Rattle.rd_base.specs.Limits.{AreLimits};
 ghost use Rattle.rd_base.specs.Outside.{NamedFile, Rose, file_of};
 ghost use Rattle.rddr.specs.Forms.{form_of};
-ghost use Rattle.rddr.specs.Outcome.{outcome, form_outcome, settings_of_file, script_of_file, replay_under};
+ghost use Rattle.rddr.specs.Outcome.{outcome, form_outcome, settings_of_file, script_of_file, script_outcome, replay_under};
 ghost use Rattle.rddr.specs.Works.{form_in, HasRange, IsReady, work_outcome, refusal_outcome, is_told};
 
 use crate::command::{Command, command_of};
 use crate::refusal::Refusal;
-use rd_base::{FileFail, Files, Limits};
-use rd_conf::{Settings, default_settings, read_settings};
+use rd_base::{FileFail, Files, Limits, NameRules, Side};
+use rd_conf::{DialectName, Settings, default_settings, read_settings};
 use rd_script::{Script, read_script};
 use std::alloc::Global;
 
@@ -24,17 +24,28 @@ const MOST_SCRIPT_BYTES: usize = 67_108_864;
 pub enum Work {
     /// The settings are in order.
     Check,
-    /// A script is to be replayed.
-    Replay { limits: Limits, script: Script },
+    /// A script is to be replayed in the dialect of this name, under these rules of names.
+    Replay {
+        dialect: DialectName,
+        names: NameRules,
+        limits: Limits,
+        script: Script,
+    },
     /// A script of so many exchanges is to be made and run.
-    Generate { limits: Limits, number: u16 },
+    Generate {
+        limits: Limits,
+        number: u16,
+    },
 }
 
 /// What the words behind the program's name ask for, with all files read that they name, in the order of the words.
 pub fn work_of<F: Files>(alloc: Global, words: &[String], files: &mut F) -> Result<Work, Refusal>
     ensures ready { IfOk result IsReady }
-    ensures work { IfOk result (λ work. (all : List NamedFile) → F.files files.old ≡ Some all → outcome (map string_bytes words.now) all ≡ work_outcome work) }
-    ensures refused { IfErr result (λ refusal. is_told refusal ≡ true → (all : List NamedFile) → F.files files.old ≡ Some all → outcome (map string_bytes words.now) all ≡ refusal_outcome refusal) }
+    ensures work { IfOk result (λ work. (all : List NamedFile) → F.files files.old ≡ Some all
+        → outcome (map string_bytes words.now) all ≡ work_outcome work) }
+    ensures refused { IfErr result (λ refusal. is_told refusal ≡ true → (all : List NamedFile)
+        → F.files files.old ≡ Some all → outcome (map string_bytes words.now) all
+        ≡ refusal_outcome refusal) }
     ensures words { (result ≡ Err Refusal.Words) ↔ (form_of (map string_bytes words.now) ≡ None) }
     ensures failed { result ≡ Err Refusal.Unread → Rose (F.faults files.old) (F.faults files.new) }
     ensures files { F.files files.new ≡ F.files files.old }
@@ -49,8 +60,11 @@ pub fn work_of<F: Files>(alloc: Global, words: &[String], files: &mut F) -> Resu
 fn work_for<F: Files>(alloc: Global, command: Command, files: &mut F) -> Result<Work, Refusal>
     requires { HasRange command }
     ensures ready { IfOk result IsReady }
-    ensures work { IfOk result (λ work. (all : List NamedFile) → F.files files.old ≡ Some all → form_outcome all (Some (form_in command.entry)) ≡ work_outcome work) }
-    ensures refused { IfErr result (λ refusal. is_told refusal ≡ true → (all : List NamedFile) → F.files files.old ≡ Some all → form_outcome all (Some (form_in command.entry)) ≡ refusal_outcome refusal) }
+    ensures work { IfOk result (λ work. (all : List NamedFile) → F.files files.old ≡ Some all
+        → form_outcome all (Some (form_in command.entry)) ≡ work_outcome work) }
+    ensures refused { IfErr result (λ refusal. is_told refusal ≡ true → (all : List NamedFile)
+        → F.files files.old ≡ Some all → form_outcome all (Some (form_in command.entry))
+        ≡ refusal_outcome refusal) }
     ensures words { result ≢ Err Refusal.Words }
     ensures failed { result ≡ Err Refusal.Unread → Rose (F.faults files.old) (F.faults files.new) }
     ensures files { F.files files.new ≡ F.files files.old }
@@ -63,11 +77,11 @@ fn work_for<F: Files>(alloc: Global, command: Command, files: &mut F) -> Result<
         }
         Command::Replay { script } => {
             let settings = default_settings(alloc)?;
-            replay_file(alloc, settings.limits, script, files)
+            replay_file(alloc, settings, script, files)
         }
         Command::ReplayUnder { settings, script } => {
             let settings = settings_file(alloc, settings, files)?;
-            replay_file(alloc, settings.limits, script, files)
+            replay_file(alloc, settings, script, files)
         }
         Command::Generate { settings, number } => {
             let settings = settings_file(alloc, settings, files)?;
@@ -82,8 +96,11 @@ fn work_for<F: Files>(alloc: Global, command: Command, files: &mut F) -> Result<
 /// The settings that the file of this name has.
 fn settings_file<F: Files>(alloc: Global, name: &str, files: &mut F) -> Result<Settings, Refusal>
     ensures limits { IfOk result (λ settings. AreLimits settings.limits) }
-    ensures settings { IfOk result (λ settings. (all : List NamedFile) → F.files files.old ≡ Some all → settings_of_file (file_of name.now all) ≡ Ok settings) }
-    ensures refused { IfErr result (λ refusal. is_told refusal ≡ true → (all : List NamedFile) → F.files files.old ≡ Some all → settings_of_file (file_of name.now all) ≡ Err (refusal_outcome refusal)) }
+    ensures settings { IfOk result (λ settings. (all : List NamedFile) → F.files files.old
+        ≡ Some all → settings_of_file (file_of name.now all) ≡ Ok settings) }
+    ensures refused { IfErr result (λ refusal. is_told refusal ≡ true → (all : List NamedFile)
+        → F.files files.old ≡ Some all → settings_of_file (file_of name.now all)
+        ≡ Err (refusal_outcome refusal)) }
     ensures words { result ≢ Err Refusal.Words }
     ensures failed { result ≡ Err Refusal.Unread → Rose (F.faults files.old) (F.faults files.new) }
     ensures files { F.files files.new ≡ F.files files.old }
@@ -102,24 +119,28 @@ fn settings_of(alloc: Global, text: &[u8]) -> Result<Settings, Refusal>
     requires { length text.now ≤ 65536 }
     ensures limits { IfOk result (λ settings. AreLimits settings.limits) }
     ensures settings { IfOk result (λ settings. settings_of_file (Some text.now) ≡ Ok settings) }
-    ensures refused { IfErr result (λ refusal. is_told refusal ≡ true → settings_of_file (Some text.now) ≡ Err (refusal_outcome refusal)) }
+    ensures refused { IfErr result (λ refusal. is_told refusal ≡ true
+        → settings_of_file (Some text.now) ≡ Err (refusal_outcome refusal)) }
     ensures words { result ≢ Err Refusal.Words }
     ensures read { result ≢ Err Refusal.Unread }
 {
     Ok(read_settings(alloc, text)?)
 }
 
-/// The script that the file of this name has, to be replayed under these limits.
+/// The script that the file of this name has, to be replayed under these settings.
 fn replay_file<F: Files>(
     alloc: Global,
-    limits: Limits,
+    settings: Settings,
     name: &str,
     files: &mut F,
 ) -> Result<Work, Refusal>
-    requires { AreLimits limits }
+    requires { AreLimits settings.limits }
     ensures ready { IfOk result IsReady }
-    ensures work { IfOk result (λ work. (all : List NamedFile) → F.files files.old ≡ Some all → replay_under limits (file_of name.now all) ≡ work_outcome work) }
-    ensures refused { IfErr result (λ refusal. is_told refusal ≡ true → (all : List NamedFile) → F.files files.old ≡ Some all → replay_under limits (file_of name.now all) ≡ refusal_outcome refusal) }
+    ensures work { IfOk result (λ work. (all : List NamedFile) → F.files files.old ≡ Some all
+        → replay_under settings (file_of name.now all) ≡ work_outcome work) }
+    ensures refused { IfErr result (λ refusal. is_told refusal ≡ true → (all : List NamedFile)
+        → F.files files.old ≡ Some all → replay_under settings (file_of name.now all)
+        ≡ refusal_outcome refusal) }
     ensures words { result ≢ Err Refusal.Words }
     ensures failed { result ≡ Err Refusal.Unread → Rose (F.faults files.old) (F.faults files.new) }
     ensures files { F.files files.new ≡ F.files files.old }
@@ -127,12 +148,38 @@ fn replay_file<F: Files>(
 {
     match files.read_all(alloc, name, MOST_SCRIPT_BYTES) {
         Ok(text) => {
-            let script = script_of(alloc, limits.copies, text.as_slice())?;
-            Ok(Work::Replay { limits, script })
+            let script = script_of(alloc, settings.limits.copies, text.as_slice())?;
+            Ok(replay_of(settings, script))
         }
         Err(FileFail::TooLong) => Err(Refusal::LongScript),
         Err(FileFail::Failed) => Err(Refusal::Unread),
         Err(FileFail::NoMemory) => Err(Refusal::NoMemory),
+    }
+}
+
+/// The replay of a script in the dialect that the settings name for its side.
+fn replay_of(settings: Settings, script: Script) -> Work
+    requires limits { AreLimits settings.limits }
+    requires well_formed { is_well_formed settings.limits.copies script.entries ≡ true }
+    ensures ready { IsReady result }
+    ensures work { work_outcome result ≡ script_outcome settings script }
+{
+    let dialect = match script.side() {
+        Side::Incoming => settings.incoming,
+        Side::Outgoing => settings.outgoing,
+    };
+    let Settings {
+        limits,
+        incoming: _,
+        outgoing: _,
+        rules,
+        ports: _,
+    } = settings;
+    Work::Replay {
+        dialect,
+        names: rules,
+        limits,
+        script,
     }
 }
 
@@ -143,7 +190,8 @@ fn script_of(alloc: Global, copies: u8, text: &[u8]) -> Result<Script, Refusal>
     requires fits { length text.now ≤ 67108864 }
     ensures script { IfOk result (λ script. script_of_file copies (Some text.now) ≡ Ok script) }
     ensures well_formed { IfOk result (λ script. is_well_formed copies script.entries ≡ true) }
-    ensures refused { IfErr result (λ refusal. is_told refusal ≡ true → script_of_file copies (Some text.now) ≡ Err (refusal_outcome refusal)) }
+    ensures refused { IfErr result (λ refusal. is_told refusal ≡ true
+        → script_of_file copies (Some text.now) ≡ Err (refusal_outcome refusal)) }
     ensures words { result ≢ Err Refusal.Words }
     ensures read { result ≢ Err Refusal.Unread }
 {

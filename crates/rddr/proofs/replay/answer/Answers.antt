@@ -3,7 +3,7 @@ use Rattle.std.specs.Prelude.{string_bytes}
 use Rattle.rd_base.specs.Outside.{NamedFile}
 use Rattle.rddr.specs.Outcome.{Outcome, outcome}
 use Rattle.rddr.specs.Works.{is_told, refusal_outcome}
-use Rattle.rddr.proofs.Held.{holds_wanted}
+use Rattle.rd_session_run.proofs.Held.{holds_wanted}
 use Rattle.rddr.proofs.replay.answer.Goals as goal
 
 pub returns-in-Err-clause-prefix : goal.returns-in-Err-clause-prefix

@@ -5,9 +5,9 @@ use Rattle.rd_base.specs.declared.values.Side.TheVariants.{Incoming}
 use Rattle.rd_script.specs.Generator.{generated}
 use Rattle.rd_script.specs.Script.{ScriptState}
 use Rattle.rddr.specs.Outcome.{generate_under, summary_outcome, line_rules, status_of}
-use Rattle.rddr.specs.Summaries.{summary, summary_text}
-use Rattle.rddr.specs.declared.summary.Summary.{Summary}
-use Rattle.rddr.proofs.Held.{at_error}
+use Rattle.rd_session_run.specs.Summaries.{summary, summary_text}
+use Rattle.rd_session_run.specs.declared.summary.Summary.{Summary}
+use Rattle.rd_session_run.proofs.Held.{at_error}
 use Rattle.rddr.proofs.replay.generate_and_run.Goals as goal
 
 pub returns-in_err-push-clause-prefix : goal.returns-in_err-push-clause-prefix

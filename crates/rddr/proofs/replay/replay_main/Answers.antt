@@ -1,7 +1,7 @@
 use Rattle.std.proofs.Common.{[], map, append-nil}
 use Rattle.std.specs.Prelude.{string_bytes}
 use Rattle.rddr.specs.Outcome.{outcome}
-use Rattle.rddr.proofs.Held.{holds_front}
+use Rattle.rd_session_run.proofs.Held.{holds_front}
 use Rattle.rddr.proofs.replay.replay_main.Goals as goal
 
 pub returns-in-Ok-clause-prefix : goal.returns-in-Ok-clause-prefix

@@ -6,4 +6,4 @@ use Rattle.rddr.proofs.work.replay_file.Goals as goal
 pub returns-in-Err-TooLong-clause-refused : goal.returns-in-Err-TooLong-clause-refused
 returns-in-Err-TooLong-clause-refused g c = λ told all tells.
     let long = c.in-Err-TooLong.ensures.too_long (ap Err c.in-Err-TooLong.field-0-is) all tells in
-    ap (replay_under c.args.limits) long.1 ∙ ap (outcome_after (script_outcome c.args.limits)) (script_long c.args.limits.copies long.0 long.2)
+    ap (replay_under c.args.settings) long.1 ∙ ap (outcome_after (script_outcome c.args.settings)) (script_long c.args.settings.limits.copies long.0 long.2)

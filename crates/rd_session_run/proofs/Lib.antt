@@ -1,0 +1,7 @@
+pub mod Held
+mod Sent
+mod Steps
+mod Ruled
+mod Sums
+mod Events
+mod Silence

@@ -1,0 +1,4 @@
+pub mod Runs
+pub mod Transcripts
+pub mod Summaries
+pub mod Counting

@@ -1,0 +1,60 @@
+ghost use Rattle.std.specs.Prelude.{◌≡◌, ◌≤◌, false, List, ℕ, OnOk, OnErr};
+ghost use Rattle.rd_base.specs.Outside.{HoldsPrefix, Rose, held_with};
+ghost use Rattle.rd_session_run.specs.Transcripts.{sends_text};
+
+use rd_base::{Failed, NoMemory, Sends, Sink};
+use rd_script::send_line;
+use std::alloc::Global;
+
+/// Why a transcript wasn't written to its end.
+#[derive(Clone, Copy, Debug, PartialEq, Eq)]
+pub enum ScriptFail {
+    /// The output failed.
+    WriteFail,
+    NoMemory,
+}
+
+impl From<NoMemory> for ScriptFail {
+    ghost use Rattle.rd_session_run.specs.declared.writing.ScriptFail.TheVariants as reason;
+
+    ghost from_gives = { λ _ fail. fail ≡ reason.NoMemory };
+
+    fn from(_none: NoMemory) -> ScriptFail {
+        ScriptFail::NoMemory
+    }
+}
+
+impl From<Failed> for ScriptFail {
+    ghost use Rattle.rd_session_run.specs.declared.writing.ScriptFail.TheVariants as reason;
+
+    ghost from_gives = { λ _ fail. fail ≡ reason.WriteFail };
+
+    fn from(_failed: Failed) -> ScriptFail {
+        ScriptFail::WriteFail
+    }
+}
+
+/// Writes a line for each send of a step, which are counted from 1.
+pub fn write_sends<K: Sink>(
+    alloc: Global,
+    step: u32,
+    sends: &Sends,
+    out: &mut K,
+) -> Result<(), ScriptFail>
+    requires { K.is_closed out.old ≡ false }
+    ensures ok { OnOk result (K.held out.new ≡ held_with (K.held out.old)
+        (sends_text step sends.now)) }
+    ensures err { OnErr result (HoldsPrefix (K.held out.old) (K.held out.new)
+        (sends_text step sends.now)) }
+    ensures failed { result ≡ Err ScriptFail.WriteFail
+        → Rose (K.faults out.old) (K.faults out.new) }
+    ensures faults { K.faults out.old ≤ K.faults out.new }
+    ensures stays_open { K.is_closed out.new ≡ false }
+    ensures mark { K.mark out.new ≡ K.mark out.old }
+{
+    for place in 0..sends.len() {
+        let line = send_line(alloc, step, sends.link_at(place), sends.bytes_at(place))?;
+        out.push(line.as_bytes())?;
+    }
+    Ok(())
+}

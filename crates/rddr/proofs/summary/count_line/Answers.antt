@@ -1,7 +1,0 @@
-use Rattle.std.proofs.Common.{append_assoc}
-use Rattle.rddr.specs.Summaries.{count_line}
-use Rattle.rddr.proofs.summary.count_line.Goals as goal
-
-pub returns : goal.returns
-unfolding count_line
-returns c = simp append_assoc c.format.ensures.ok
