@@ -1,0 +1,5 @@
+pub mod Firsts
+pub mod Counts
+pub mod Marks
+pub mod Pushes
+pub mod Calls

@@ -1,0 +1,4 @@
+pub mod Notes
+pub mod Calls
+pub mod Latest
+pub mod Board

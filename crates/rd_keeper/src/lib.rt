@@ -1,0 +1,16 @@
+// Session notes that outlive the program: in memory, or in a database file.
+#![tactic(auto)]
+
+mod keeper;
+mod mem_keeper;
+mod notes;
+mod sql_keeper;
+mod table;
+
+pub use keeper::{KeepFail, Keeper, Put};
+pub use mem_keeper::MemKeeper;
+pub use notes::Notes;
+pub use sql_keeper::SqlKeeper;
+
+#[cfg(test)]
+mod tests;
