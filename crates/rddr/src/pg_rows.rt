@@ -110,6 +110,66 @@ ask Q\0\0\0\x0dSELECT 1\0
 2 T\0\0\0!\0\x01?column?\0\0\0\0\0\0\0\0\0\0\x17\0\x04\xff\xff\xff\xff\0\0D\0\0\0\x0c\0\x01\0\0\0\x05abZ\0\0\0\x05I
 = 1 end Disagree exchange 2 copy 1 place 6
 
+row messages that all end early
+version 1
+ask \0\0\0\x10\0\x03\0\0user\0u\0\0
+012 R\0\0\0\x08\0\0\0\0Z\0\0\0\x05I
+> 3 R\0\0\0\x08\0\0\0\0Z\0\0\0\x05I
+ask Q\0\0\0\x0dSELECT 1\0
+012 T\0\0\0\x08\0\x01abC\0\0\0\x06abS\0\0\0\x06abE\0\0\0\x07MabD\0\0\0\x05\0Z\0\0\0\x05I
+> 3 T\0\0\0\x08\0\x01abC\0\0\0\x06abS\0\0\0\x06abE\0\0\0\x07MabD\0\0\0\x05\0Z\0\0\0\x05I
+= 0 live
+
+row a description that ends early
+version 1
+ask \0\0\0\x10\0\x03\0\0user\0u\0\0
+012 R\0\0\0\x08\0\0\0\0Z\0\0\0\x05I
+> 3 R\0\0\0\x08\0\0\0\0Z\0\0\0\x05I
+ask Q\0\0\0\x0dSELECT 1\0
+02 T\0\0\0\x08\0\x01abC\0\0\0\x06abS\0\0\0\x06abE\0\0\0\x07MabD\0\0\0\x05\0Z\0\0\0\x05I
+1 T\0\0\0\x08\0\x01acC\0\0\0\x06abS\0\0\0\x06abE\0\0\0\x07MabD\0\0\0\x05\0Z\0\0\0\x05I
+= 1 end Disagree exchange 2 copy 1 place 2
+
+row a tag that ends early
+version 1
+ask \0\0\0\x10\0\x03\0\0user\0u\0\0
+012 R\0\0\0\x08\0\0\0\0Z\0\0\0\x05I
+> 3 R\0\0\0\x08\0\0\0\0Z\0\0\0\x05I
+ask Q\0\0\0\x0dSELECT 1\0
+02 T\0\0\0\x08\0\x01abC\0\0\0\x06abS\0\0\0\x06abE\0\0\0\x07MabD\0\0\0\x05\0Z\0\0\0\x05I
+1 T\0\0\0\x08\0\x01abC\0\0\0\x06acS\0\0\0\x06abE\0\0\0\x07MabD\0\0\0\x05\0Z\0\0\0\x05I
+= 1 end Disagree exchange 2 copy 1 place 4
+
+row a parameter that ends early
+version 1
+ask \0\0\0\x10\0\x03\0\0user\0u\0\0
+012 R\0\0\0\x08\0\0\0\0Z\0\0\0\x05I
+> 3 R\0\0\0\x08\0\0\0\0Z\0\0\0\x05I
+ask Q\0\0\0\x0dSELECT 1\0
+02 T\0\0\0\x08\0\x01abC\0\0\0\x06abS\0\0\0\x06abE\0\0\0\x07MabD\0\0\0\x05\0Z\0\0\0\x05I
+1 T\0\0\0\x08\0\x01abC\0\0\0\x06abS\0\0\0\x06acE\0\0\0\x07MabD\0\0\0\x05\0Z\0\0\0\x05I
+= 1 end Disagree exchange 2 copy 1 place 6
+
+row an error that ends early
+version 1
+ask \0\0\0\x10\0\x03\0\0user\0u\0\0
+012 R\0\0\0\x08\0\0\0\0Z\0\0\0\x05I
+> 3 R\0\0\0\x08\0\0\0\0Z\0\0\0\x05I
+ask Q\0\0\0\x0dSELECT 1\0
+02 T\0\0\0\x08\0\x01abC\0\0\0\x06abS\0\0\0\x06abE\0\0\0\x07MabD\0\0\0\x05\0Z\0\0\0\x05I
+1 T\0\0\0\x08\0\x01abC\0\0\0\x06abS\0\0\0\x06abE\0\0\0\x07MacD\0\0\0\x05\0Z\0\0\0\x05I
+= 1 end Disagree exchange 2 copy 1 place 9
+
+row a count that ends early
+version 1
+ask \0\0\0\x10\0\x03\0\0user\0u\0\0
+012 R\0\0\0\x08\0\0\0\0Z\0\0\0\x05I
+> 3 R\0\0\0\x08\0\0\0\0Z\0\0\0\x05I
+ask Q\0\0\0\x0dSELECT 1\0
+02 T\0\0\0\x08\0\x01abC\0\0\0\x06abS\0\0\0\x06abE\0\0\0\x07MabD\0\0\0\x05\0Z\0\0\0\x05I
+1 T\0\0\0\x08\0\x01abC\0\0\0\x06abS\0\0\0\x06abE\0\0\0\x07MabD\0\0\0\x05\x01Z\0\0\0\x05I
+= 1 end Disagree exchange 2 copy 1 place 11
+
 row a free column
 version 2
 set free_names = ["now"]
@@ -244,6 +304,46 @@ outgoing
 01 Q\0\0\0\x0dSELECT 1\0
 2 Q\0\0\0\x0dSELECT 2\0
 = 1 end Disagree exchange 2 copy 2 place 3
+
+row a query that ends early
+version 1
+outgoing
+012 \0\0\0\x10\0\x03\0\0user\0u\0\0
+> 3 \0\0\0\x10\0\x03\0\0user\0u\0\0
+3 R\0\0\0\x08\0\0\0\0Z\0\0\0\x05I
+> 012 R\0\0\0\x08\0\0\0\0Z\0\0\0\x05I
+02 Q\0\0\0\x07SEL
+1 Q\0\0\0\x07SEM
+= 1 end Disagree exchange 2 copy 1 place 1
+
+row a statement that ends early
+version 1
+outgoing
+012 \0\0\0\x10\0\x03\0\0user\0u\0\0
+> 3 \0\0\0\x10\0\x03\0\0user\0u\0\0
+3 R\0\0\0\x08\0\0\0\0Z\0\0\0\x05I
+> 012 R\0\0\0\x08\0\0\0\0Z\0\0\0\x05I
+02 P\0\0\0\x08\0SELS\0\0\0\x04
+1 P\0\0\0\x08\0SEMS\0\0\0\x04
+= 1 end Disagree exchange 2 copy 1 place 2
+
+row formats that end early
+version 1
+outgoing
+012 \0\0\0\x10\0\x03\0\0user\0u\0\0
+> 3 \0\0\0\x10\0\x03\0\0user\0u\0\0
+3 R\0\0\0\x08\0\0\0\0Z\0\0\0\x05I
+> 012 R\0\0\0\x08\0\0\0\0Z\0\0\0\x05I
+02 B\0\0\0\x07\0\0\0S\0\0\0\x04
+1 B\0\0\0\x07\0\0\x01S\0\0\0\x04
+= 1 end Disagree exchange 2 copy 1 place 3
+
+row a startup that ends early
+version 1
+outgoing
+02 \0\0\0\x0c\0\x03\0\0user
+1 \0\0\0\x0c\0\x03\0\0usex
+= 1 end Disagree exchange 1 copy 1 place 1
 "#;
 
 #[test]
