@@ -284,8 +284,11 @@ const REQUEST: &str =
 const SENT: &str =
     "GET /a HTTP/1.1\r\nHost: shop.local\r\nUser-Agent: Mozilla/5.0\r\nAccept: */*\r\nAccept-Encoding: identity\r\nCookie: sid=1\r\n\r\n";
 
+const FIRST_REPLY: &str =
+    "HTTP/1.1 200 OK\r\nDate: Tue, 15 Nov 1994 08:12:31 GMT\r\nServer: one\r\nContent-Type: text/html\r\nTransfer-Encoding: chunked\r\n\r\n4\r\n<p>h\r\n6\r\ni</p>\n\r\n0\r\n\r\n";
+
 const REPLY: &str =
-    "HTTP/1.1 200 OK\r\nServer: two\r\nContent-Type: text/html\r\nContent-Length: 10\r\n\r\n<p>hi</p>\n";
+    "HTTP/1.1 200 Fine\r\nServer: two\r\nContent-Type: text/html\r\nContent-Length: 10\r\n\r\n<p>hi</p>\n";
 
 /// What comes of these pieces and of the end of this link.
 fn cut_short(alloc: Global, pieces: &[(u8, &str)], link: u8) -> Result<Answer, Fail> {
@@ -313,7 +316,7 @@ fn replies_that_are_cut_short(rt: HostRuntime) -> Result<(), Fail> {
     let want = transcript_of(alloc, &sends, "end Broken link 2\n")?;
     for count in 1..REPLY.len() {
         let front = REPLY.get(..count).unwrap_or("");
-        let pieces = [(3, REQUEST), (0, REPLY), (1, REPLY), (2, front)];
+        let pieces = [(3, REQUEST), (0, FIRST_REPLY), (1, REPLY), (2, front)];
         let run = cut_short(alloc, &pieces, 2)?;
         assert_eq!(rt; run.text.as_str(), want.as_str());
         assert_eq!(rt; run.status, 1);
