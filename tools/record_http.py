@@ -72,9 +72,10 @@ class Head:
 
 
 def chunks_of(data, at):
-    """The contents of the chunks from `at` on, and where their trailer ends."""
+    """The contents of the chunks from `at` on, where the last chunk's line begins, and where the trailer ends."""
     contents = []
     while True:
+        last_chunk = at
         line_end = data.index(b"\r\n", at)
         size = int(data[at:line_end], 16)
         at = line_end + 2
@@ -87,7 +88,7 @@ def chunks_of(data, at):
         last = line_end == at
         at = line_end + 2
         if last:
-            return contents, at
+            return contents, last_chunk, at
 
 
 def body_end(data, head, empty, to_the_end):
@@ -95,7 +96,7 @@ def body_end(data, head, empty, to_the_end):
     if empty:
         return head.end
     if head.value(b"transfer-encoding") is not None:
-        return chunks_of(data, head.end)[1]
+        return chunks_of(data, head.end)[2]
     length = head.value(b"content-length")
     if length is None:
         return len(data) if to_the_end else head.end
@@ -163,11 +164,10 @@ def with_body(reply, change, chunk_size):
     if head.value(b"transfer-encoding") is None:
         body = change(rest)
         return re.sub(rb"(?im)^(content-length:[ \t]*)\d+", lambda m: m[1] + str(len(body)).encode(), top) + body
-    contents, end = chunks_of(reply, head.end)
+    contents, last_chunk, end = chunks_of(reply, head.end)
     body = change(b"".join(contents))
-    trailer = reply[head.end:end][len(b"".join(b"%x\r\n" % len(c) + c + b"\r\n" for c in contents)):]
     chunks = [body[at:at + chunk_size] for at in range(0, len(body), chunk_size)]
-    return top + b"".join(b"%x\r\n%s\r\n" % (len(chunk), chunk) for chunk in chunks) + trailer
+    return top + b"".join(b"%x\r\n%s\r\n" % (len(chunk), chunk) for chunk in chunks) + reply[last_chunk:end]
 
 
 # ---- What copies say, and what is due
