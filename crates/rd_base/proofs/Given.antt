@@ -6,7 +6,7 @@ use Rattle.rd_base.specs.declared.source.Give.{Give}
 use Rattle.rd_base.specs.declared.source.Give.TheVariants.{End}
 use Rattle.rd_base.specs.declared.mem_source.Answer.{Answer}
 use Rattle.rd_base.specs.declared.mem_source.Logged.{Logged}
-use Rattle.rd_base.specs.Sources.{told_with}
+use Rattle.rd_base.specs.Counts.{told_with}
 use Rattle.rd_base.specs.MemSource.{logged_give, logged_gives, given_by, KeepsLog}
 
 logged-push : (pieces : List (List ℕ)) (log : List Logged) (entry : Logged) → logged_gives pieces (log ++ entry ∷ []) ≡ logged_gives pieces log ++ (replicate entry.ends End ++ logged_give pieces entry.answer ∷ [])

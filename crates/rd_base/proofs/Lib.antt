@@ -4,3 +4,4 @@ pub mod WordRows
 pub mod SharedRows
 pub mod MemWrites
 pub mod Given
+pub mod Ticking

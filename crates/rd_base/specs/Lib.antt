@@ -8,9 +8,12 @@ pub mod Sent
 pub mod Verdicts
 pub mod Heard
 pub mod OwnRows
+pub mod Counts
 pub mod Outside
 pub mod Limits
 pub mod MemSink
 pub mod MemFiles
 pub mod Sources
 pub mod MemSource
+pub mod Clocks
+pub mod MemClocks

@@ -1,5 +1,6 @@
 -- What sources tell, as plain data.
-use Rattle.std.specs.Prelude.{◌≡◌, ℕ, ◌≤◌, ◌-◌, ◌^◌, nat_lt, List, [], ◌∷◌, ◌++◌, length, Option, option_map, if◌then◌else◌}
+use Rattle.std.specs.Prelude.{◌≡◌, ℕ, ◌≤◌, List, length, Option}
+use Rattle.rd_base.specs.Counts.{told_with}
 use Rattle.rd_base.specs.Outside.{Mark, Rose}
 use Rattle.rd_base.specs.declared.source.Give.{Give}
 use Rattle.rd_base.specs.declared.source.Give.TheVariants.{Piece, End, Failed, NoMemory}
@@ -9,14 +10,6 @@ pub record SourceTold : Type 0 where
   pub mark : Mark
   pub faults : ℕ
   pub given : Option (List Give)
-
--- answers, and one more. A list stands still at 2^64-1 answers, as counts do
-abbrev pub with_answer : {A : Type 0} → A → List A → List A
-with_answer x xs = if nat_lt (length xs) (2 ^ 64 - 1) then xs ++ x ∷ [] else xs
-
--- what was told, and then one answer; what tells nothing goes on so
-abbrev pub told_with : {A : Type 0} → Option (List A) → A → Option (List A)
-told_with told x = option_map (with_answer x) told
 
 -- a piece has at least one byte, and no more than these
 abbrev pub IsGive : ℕ → Give → Type 0

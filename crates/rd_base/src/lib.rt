@@ -2,10 +2,13 @@
 #![tactic(auto)]
 
 mod bytes;
+mod clock;
 mod mask;
+mod mem_clock;
 mod mem_files;
 mod mem_sink;
 mod mem_source;
+mod mem_stopper;
 mod names;
 mod outside;
 mod row;
@@ -13,16 +16,20 @@ mod rows;
 mod sends;
 mod session_note;
 mod source;
+mod stopper;
 mod values;
 mod verdict;
 mod word_list;
 mod words;
 
 pub use bytes::{Bytes, NoMemory};
+pub use clock::Clock;
 pub use mask::Mask;
+pub use mem_clock::MemClock;
 pub use mem_files::MemFiles;
 pub use mem_sink::{MemSink, PushFault};
 pub use mem_source::MemSource;
+pub use mem_stopper::MemStopper;
 pub use names::{NameRules, Names};
 pub use outside::{Failed, FileFail, Files, Sink};
 pub use row::Row;
@@ -30,6 +37,7 @@ pub use rows::Rows;
 pub use sends::{Send, Sends};
 pub use session_note::{OperatorEnd, SessionNote};
 pub use source::{Give, Source};
+pub use stopper::Stopper;
 pub use values::{
     Beside, Cursor, Ending, Happening, Limits, Link, MaskLimits, Note, Part, Phase, Scan, Side,
     TokenKind, TokenSpan, What, Which,

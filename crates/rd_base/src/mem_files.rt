@@ -1,6 +1,7 @@
-ghost use Rattle.std.specs.Prelude.{◌≡◌, ◌≤◌, ◌<◌, ◌++◌, [], ◌∷◌, Some, None, map, find, option_map, length, bytes_eq, OnOk, OnErr, MatchOption};
-ghost use Rattle.rd_base.specs.Outside.{NamedFile, file_of};
-ghost use Rattle.rd_base.specs.MemFiles.{MemFilesState, seen_file};
+ghost use Rattle.std.specs.Prelude.{◌≡◌, ◌≤◌, ◌<◌, ◌++◌, [], ◌∷◌, Some, None, true, ℕ, List, IfOk, ◌-◌, ◌+◌, map, find, option_map, length, bytes_eq, OnOk, OnErr, MatchOption};
+ghost use Rattle.rd_base.specs.Outside.{NamedFile, Rose, StaysRead, file_of, is_listed};
+ghost use Rattle.rd_base.specs.MemFiles.{files_tell, seen_file};
+ghost use Rattle.rd_base.specs.Counts.{counted};
 
 use crate::bytes::{Bytes, NoMemory};
 use crate::outside::{FileFail, Files};
@@ -19,23 +20,28 @@ pub struct MemFiles {
     alloc: Global,
     files: Vec<MemFile>,
     faults: u64,
-    calls: usize,
-    failing: Vec<usize>,
+    calls: u64,
+    failing: Vec<u64>,
 }
 
 impl Model for MemFiles {
     ghost use Rattle.std.specs.Prelude.{map};
-    ghost use Rattle.rd_base.specs.MemFiles.{MemFilesState, seen_file};
+    ghost use Rattle.rd_base.specs.MemFiles.{MemFilesView, seen_file};
 
-    ghost Value = { MemFilesState };
+    ghost Value = { MemFilesView };
 
-    ghost view = { λ f. record { files = map seen_file f.files.items; faults = f.faults } };
+    ghost view = { λ f. record {
+      files = map seen_file f.files.items;
+      faults = f.faults;
+      calls = f.calls;
+      failing = f.failing.items;
+    } };
 }
 
 impl MemFiles {
     /// No files, and the numbers, from 0, of the calls that are to fail.
-    pub fn new(alloc: Global, failing: Vec<usize>) -> MemFiles
-        ensures { result ≡ record { files = []; faults = 0 } }
+    pub fn new(alloc: Global, failing: Vec<u64>) -> MemFiles
+        ensures { result ≡ record { files = []; faults = 0; calls = 0; failing = failing.items } }
     {
         MemFiles {
             alloc,
@@ -48,17 +54,17 @@ impl MemFiles {
 
     /// Adds a file behind the others. Of two files of one name the first counts.
     pub fn add(&mut self, name: &str, bytes: &[u8]) -> Result<(), NoMemory>
-        ensures ok { OnOk result (self.new ≡ record { files = self.old.files ++ record { name = name.now; bytes = bytes.now } ∷ []; faults = self.old.faults }) }
+        ensures ok { OnOk result (self.new.files ≡ self.old.files ++ record { name = name.now; bytes = bytes.now } ∷ []) }
+        ensures faults { self.new.faults ≡ self.old.faults }
+        ensures calls { self.new.calls ≡ self.old.calls }
+        ensures failing { self.new.failing ≡ self.old.failing }
         ensures err { OnErr result (self.new ≡ self.old) }
     {
         let file = MemFile {
             name: Bytes::from_slice(self.alloc, name.as_bytes())?,
             bytes: Bytes::from_slice(self.alloc, bytes)?,
         };
-        match self.files.push(file) {
-            Ok(()) => Ok(()),
-            Err(_) => Err(NoMemory),
-        }
+        Ok(self.files.push(file)?)
     }
 
     /// The number of reads that failed.
@@ -70,14 +76,25 @@ impl MemFiles {
 }
 
 impl Files for MemFiles {
-    ghost files = { λ f. Some f.files };
+    ghost tells = { files_tell };
 
-    ghost faults = { λ f. f.faults };
-
-    fn read_all(&mut self, alloc: Global, name: &str, most: usize) -> Result<Bytes, FileFail> {
+    fn read_all(&mut self, alloc: Global, name: &str, most: usize) -> Result<Bytes, FileFail>
+        ensures ok { IfOk result (λ b. (all : List NamedFile) → (files_tell self.old).files ≡ Some all
+            → file_of name.now all ≡ Some b) }
+        ensures fits { IfOk result (λ b. length b ≤ most) }
+        ensures too_long { result ≡ Err FileFail.TooLong → (all : List NamedFile)
+            → (files_tell self.old).files ≡ Some all
+            → (b : List ℕ) × (file_of name.now all ≡ Some b) × (most < length b) }
+        ensures failed { result ≡ Err FileFail.Failed
+            → Rose (files_tell self.old).faults (files_tell self.new).faults }
+        ensures read { StaysRead (files_tell self.old) (files_tell self.new) }
+        ensures listed { is_listed self.old.calls self.old.failing ≡ true → result ≡ Err FileFail.Failed }
+        ensures calls { self.new.calls ≡ counted self.old.calls }
+        ensures failing { self.new.failing ≡ self.old.failing }
+    {
         let call = self.calls;
         self.calls = self.calls.saturating_add(1);
-        if self.failing.iter().any(|failing| *failing == call) {
+        if is_listed_call(call, &self.failing) {
             self.faults = self.faults.saturating_add(1);
             return Err(FileFail::Failed);
         }
@@ -95,6 +112,13 @@ impl Files for MemFiles {
             }
         }
     }
+}
+
+/// Whether this call is among those that are to fail.
+pub(crate) fn is_listed_call(call: u64, failing: &[u64]) -> bool
+    ensures { result ≡ is_listed call failing.now }
+{
+    failing.iter().any(|number| *number == call)
 }
 
 /// What is in the first file of this name.

@@ -1,6 +1,7 @@
-ghost use Rattle.std.specs.Prelude.{◌≡◌, ◌≤◌, ◌⊎◌, ◌++◌, [], false, Some, ℕ, List};
-ghost use Rattle.rd_base.specs.Outside.{Mark};
-ghost use Rattle.rd_base.specs.MemSink.{MemSinkState};
+ghost use Rattle.std.specs.Prelude.{◌≡◌, ◌⊎◌, ◌++◌, [], false, true, take, is_some, min, ◌+◌, ◌-◌, ◌^◌};
+ghost use Rattle.rd_base.specs.Outside.{Writes, Closes, failed};
+ghost use Rattle.rd_base.specs.MemSink.{sink_tells, fault_at, FailsAfter};
+ghost use Rattle.rd_base.specs.Counts.{counted};
 
 use crate::bytes::Bytes;
 use crate::outside::{Failed, Sink};
@@ -10,7 +11,7 @@ use std::marker::Model;
 /// A push that is to fail: its number, counted from 0, and how many of its bytes are written before.
 #[derive(Clone, Copy, Debug, PartialEq, Eq)]
 pub struct PushFault {
-    pub call: usize,
+    pub call: u64,
     pub after: usize,
 }
 
@@ -22,22 +23,36 @@ pub struct MemSink {
     is_closed: bool,
     first: u64,
     second: u64,
-    calls: usize,
+    calls: u64,
     failing: Vec<PushFault>,
 }
 
 impl Model for MemSink {
-    ghost use Rattle.rd_base.specs.MemSink.{MemSinkState};
+    ghost use Rattle.rd_base.specs.MemSink.{MemSinkView};
 
-    ghost Value = { MemSinkState };
+    ghost Value = { MemSinkView };
 
-    ghost view = { λ s. record { held = s.held; faults = s.faults; is_closed = s.is_closed; mark = record { first = s.first; second = s.second } } };
+    ghost view = { λ s. record {
+      mark = record { first = s.first; second = s.second };
+      faults = s.faults;
+      held = s.held;
+      is_closed = s.is_closed;
+      calls = s.calls;
+      failing = s.failing.items;
+    } };
 }
 
 impl MemSink {
     /// An open sink without bytes, of this mark, and the pushes that are to fail.
     pub fn new(alloc: Global, first: u64, second: u64, failing: Vec<PushFault>) -> MemSink
-        ensures { result ≡ record { held = []; faults = 0; is_closed = false; mark = record { first = first; second = second } } }
+        ensures { result ≡ record {
+          mark = record { first = first; second = second };
+          faults = 0;
+          held = [];
+          is_closed = false;
+          calls = 0;
+          failing = failing.items;
+        } }
     {
         MemSink {
             held: Bytes::new(alloc),
@@ -72,18 +87,19 @@ impl MemSink {
 }
 
 impl Sink for MemSink {
-    ghost held = { λ s. Some s.held };
+    ghost tells = { sink_tells };
 
-    ghost faults = { λ s. s.faults };
-
-    ghost is_closed = { λ s. s.is_closed };
-
-    ghost mark = { λ s. s.mark };
-
-    fn push(&mut self, bytes: &[u8]) -> Result<(), Failed> {
+    fn push(&mut self, bytes: &[u8]) -> Result<(), Failed>
+        requires { (sink_tells self.old).is_closed ≡ false }
+        ensures writes { Writes bytes.now failed result (sink_tells self.old) (sink_tells self.new) }
+        ensures listed { is_some (fault_at self.old.calls self.old.failing) ≡ true → result ≡ Err failed }
+        ensures after { FailsAfter (fault_at self.old.calls self.old.failing) self.old.held bytes.now self.new.held }
+        ensures calls { self.new.calls ≡ counted self.old.calls }
+        ensures failing { self.new.failing ≡ self.old.failing }
+    {
         let call = self.calls;
         self.calls = self.calls.saturating_add(1);
-        match self.failing.iter().find(|fault| fault.call == call) {
+        match fault_of(call, &self.failing) {
             Some(fault) => {
                 let written = fault.after.min(bytes.len());
                 self.faults = self.faults.saturating_add(1);
@@ -100,9 +116,25 @@ impl Sink for MemSink {
         }
     }
 
-    fn close(&mut self) {
+    fn close(&mut self)
+        ensures closes { Closes (sink_tells self.old) (sink_tells self.new) }
+        ensures calls { self.new.calls ≡ self.old.calls }
+        ensures failing { self.new.failing ≡ self.old.failing }
+    {
         self.is_closed = true;
     }
+}
+
+/// The first fault that is listed for this push.
+fn fault_of(call: u64, failing: &[PushFault]) -> Option<PushFault>
+    ensures { result ≡ fault_at call failing.now }
+{
+    for fault in failing {
+        if fault.call == call {
+            return Some(*fault);
+        }
+    }
+    None
 }
 
 /// Appends these bytes, or none where memory runs out.

@@ -1,2 +1,3 @@
 pub mod SwapForm
 pub mod WordsIn
+pub mod BookCalls

@@ -1,16 +1,13 @@
-use Rattle.std.proofs.Common.{◌≡◌, ◌<◌, ◌≤◌, ◌+◌, ℕ, refl, min, [], length, get_or, sym, ap, subst, ◌∙◌, arith, inl, inr}
+use Rattle.std.proofs.Common.{◌≡◌, ◌<◌, ◌≤◌, ◌+◌, refl, [], length, get_or, sym, ap, subst, ◌∙◌, arith}
 use Rattle.std.specs.Prelude.{vec_len}
 use Rattle.std.proofs.lemmas.List.{get_or_default, drop_more}
-use Rattle.std.proofs.lemmas.Bool.{cases_lt}
 use Rattle.rd_base.specs.declared.source.Give.TheVariants.{Piece, Failed, NoMemory}
 use Rattle.rd_base.specs.declared.mem_source.Answer.TheVariants as answer
 use Rattle.rd_base.specs.MemSource.{IsPiece}
 use Rattle.rd_base.specs.Outside.{Rose}
+use Rattle.rd_base.proofs.MemWrites.{risen}
 use Rattle.rd_base.proofs.Given.{keeps_log, tells_logged}
 use Rattle.rd_base.proofs.mem_source.MemSourceSource.give.Goals as goal
-
-risen : (before after : ℕ) → after ≡ min (before + 1) 18446744073709551615 → Rose before after
-risen before after is = elim (cases_lt before after) [ inl lt ↦ inl lt | inr le ↦ inr (omega arith) ]
 
 pub invariant_of-self : goal.invariant_of-self
 invariant_of-self c =
