@@ -1,7 +1,7 @@
 ghost use Rattle.std.specs.Prelude.{◌≡◌, ◌≤◌, ◌<◌, ◌+◌, false, true, [], length, take, IfOk, OnOk, OnErr};
 ghost use Rattle.rd_base.specs.History.{is_well_formed};
 ghost use Rattle.rd_base.specs.Limits.{AreLimits};
-ghost use Rattle.rd_base.specs.Outside.{HoldsPrefix, Rose, held_with};
+ghost use Rattle.rd_base.specs.Outside.{HoldsPrefix, Rose, StaysOpen, held_with};
 ghost use Rattle.rd_reading.specs.Seen.{rules_of};
 ghost use Rattle.rd_core.specs.Standing.{IsAt};
 ghost use Rattle.rd_rules.specs.Sent.{transcript, final};
@@ -28,20 +28,18 @@ pub fn run_script<D: Dialect, K: Sink>(
     requires limits { AreLimits limits }
     requires side { side ≡ script.now.side }
     requires well_formed { is_well_formed limits.copies script.now.entries ≡ true }
-    requires is_open { K.is_closed out.old ≡ false }
-    ensures ok { OnOk result (K.held out.new ≡ held_with (K.held out.old)
+    requires is_open { (K.tells out.old).is_closed ≡ false }
+    ensures ok { OnOk result ((K.tells out.new).held ≡ held_with (K.tells out.old).held
         (transcript_text (transcript (rules_for side
         (D.grammar dialect) limits) script.now.entries))) }
     ensures ending { IfOk result (λ ending. ending ≡ final
         (rules_for side (D.grammar dialect) limits) script.now.entries) }
-    ensures err { OnErr result (HoldsPrefix (K.held out.old) (K.held out.new)
+    ensures err { OnErr result (HoldsPrefix (K.tells out.old).held (K.tells out.new).held
         (transcript_text (transcript (rules_for side
         (D.grammar dialect) limits) script.now.entries))) }
     ensures failed { result ≡ Err ScriptFail.WriteFail
-        → Rose (K.faults out.old) (K.faults out.new) }
-    ensures faults { K.faults out.old ≤ K.faults out.new }
-    ensures stays_open { K.is_closed out.new ≡ false }
-    ensures mark { K.mark out.new ≡ K.mark out.old }
+        → Rose (K.tells out.old).faults (K.tells out.new).faults }
+    ensures stays { StaysOpen (K.tells out.old) (K.tells out.new) }
 {
     let mut session = Session::new(alloc, dialect, Setup { side, limits })?;
     run_steps(alloc, &mut session, script, out)?;
@@ -60,19 +58,17 @@ fn run_steps<D: Dialect, K: Sink>(
     requires begins { IsAt (rules_of (D.grammar session.old.dialect) session.old.setup) session.old [] }
     requires well_formed { is_well_formed session.old.setup.limits.copies script.now.entries
         ≡ true }
-    requires is_open { K.is_closed out.old ≡ false }
+    requires is_open { (K.tells out.old).is_closed ≡ false }
     ensures dialect { session.new.dialect ≡ session.old.dialect }
     ensures setup { session.new.setup ≡ session.old.setup }
     ensures at { OnOk result (IsAt (rules_of (D.grammar session.old.dialect) session.old.setup) session.new script.now.entries) }
-    ensures ok { OnOk result (K.held out.new ≡ held_with (K.held out.old)
+    ensures ok { OnOk result ((K.tells out.new).held ≡ held_with (K.tells out.old).held
         (all_steps_text (rules_of (D.grammar session.old.dialect) session.old.setup) script.now.entries)) }
-    ensures err { OnErr result (HoldsPrefix (K.held out.old) (K.held out.new)
+    ensures err { OnErr result (HoldsPrefix (K.tells out.old).held (K.tells out.new).held
         (all_steps_text (rules_of (D.grammar session.old.dialect) session.old.setup) script.now.entries)) }
     ensures failed { result ≡ Err ScriptFail.WriteFail
-        → Rose (K.faults out.old) (K.faults out.new) }
-    ensures faults { K.faults out.old ≤ K.faults out.new }
-    ensures stays_open { K.is_closed out.new ≡ false }
-    ensures mark { K.mark out.new ≡ K.mark out.old }
+        → Rose (K.tells out.old).faults (K.tells out.new).faults }
+    ensures stays { StaysOpen (K.tells out.old) (K.tells out.new) }
 {
     for place in 0..script.len() {
         run_step(alloc, session, script, place, out)?;
@@ -94,19 +90,17 @@ fn run_step<D: Dialect, K: Sink>(
         ≡ true }
     requires at { IsAt (rules_of (D.grammar session.old.dialect) session.old.setup) session.old
         (take place script.now.entries) }
-    requires is_open { K.is_closed out.old ≡ false }
+    requires is_open { (K.tells out.old).is_closed ≡ false }
     ensures dialect { session.new.dialect ≡ session.old.dialect }
     ensures setup { session.new.setup ≡ session.old.setup }
     ensures at { OnOk result (IsAt (rules_of (D.grammar session.old.dialect) session.old.setup) session.new (take (place + 1) script.now.entries)) }
-    ensures ok { OnOk result (K.held out.new ≡ held_with (K.held out.old)
+    ensures ok { OnOk result ((K.tells out.new).held ≡ held_with (K.tells out.old).held
         (step_text (rules_of (D.grammar session.old.dialect) session.old.setup) script.now.entries place)) }
-    ensures err { OnErr result (HoldsPrefix (K.held out.old) (K.held out.new)
+    ensures err { OnErr result (HoldsPrefix (K.tells out.old).held (K.tells out.new).held
         (step_text (rules_of (D.grammar session.old.dialect) session.old.setup) script.now.entries place)) }
     ensures failed { result ≡ Err ScriptFail.WriteFail
-        → Rose (K.faults out.old) (K.faults out.new) }
-    ensures faults { K.faults out.old ≤ K.faults out.new }
-    ensures stays_open { K.is_closed out.new ≡ false }
-    ensures mark { K.mark out.new ≡ K.mark out.old }
+        → Rose (K.tells out.old).faults (K.tells out.new).faults }
+    ensures stays { StaysOpen (K.tells out.old) (K.tells out.new) }
 {
     let sends = session.take(script.happening(place), script.told(place))?;
     write_sends(alloc, place as u32 + 1, &sends, out)

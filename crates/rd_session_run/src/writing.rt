@@ -1,5 +1,5 @@
 ghost use Rattle.std.specs.Prelude.{◌≡◌, ◌≤◌, false, List, ℕ, OnOk, OnErr};
-ghost use Rattle.rd_base.specs.Outside.{HoldsPrefix, Rose, held_with};
+ghost use Rattle.rd_base.specs.Outside.{HoldsPrefix, Rose, StaysOpen, held_with};
 ghost use Rattle.rd_session_run.specs.Transcripts.{sends_text};
 
 use rd_base::{Failed, NoMemory, Sends, Sink};
@@ -41,16 +41,14 @@ pub fn write_sends<K: Sink>(
     sends: &Sends,
     out: &mut K,
 ) -> Result<(), ScriptFail>
-    requires { K.is_closed out.old ≡ false }
-    ensures ok { OnOk result (K.held out.new ≡ held_with (K.held out.old)
+    requires { (K.tells out.old).is_closed ≡ false }
+    ensures ok { OnOk result ((K.tells out.new).held ≡ held_with (K.tells out.old).held
         (sends_text step sends.now)) }
-    ensures err { OnErr result (HoldsPrefix (K.held out.old) (K.held out.new)
+    ensures err { OnErr result (HoldsPrefix (K.tells out.old).held (K.tells out.new).held
         (sends_text step sends.now)) }
     ensures failed { result ≡ Err ScriptFail.WriteFail
-        → Rose (K.faults out.old) (K.faults out.new) }
-    ensures faults { K.faults out.old ≤ K.faults out.new }
-    ensures stays_open { K.is_closed out.new ≡ false }
-    ensures mark { K.mark out.new ≡ K.mark out.old }
+        → Rose (K.tells out.old).faults (K.tells out.new).faults }
+    ensures stays { StaysOpen (K.tells out.old) (K.tells out.new) }
 {
     for place in 0..sends.len() {
         let line = send_line(alloc, step, sends.link_at(place), sends.bytes_at(place))?;

@@ -17,8 +17,8 @@ returns-in_err-run_steps-clause-err g c =
     let now : Rules = rules_of (g.D.Dialect.grammar c.in_ok-session.session.dialect) c.in_ok-session.session.setup in
     let same : now ≡ rules = made_rules g.D.Dialect.grammar c.in_ok-session.session c.args.dialect (record { side = c.args.side; limits = c.args.limits }) c.in_ok-session.ensures.dialect c.in_ok-session.ensures.setup in
     let h : History = c.args.script.now.entries in
-    let on = subst (λ (r : Rules). HoldsPrefix (g.K.Sink.held c.args.out.now) (g.K.Sink.held c.run_steps.new.out) (all_steps_text r h)) same c.in_err-run_steps.ensures.err in
-    at_error c.from_residual-in_err-run_steps.result (holds_longer (g.K.Sink.held c.args.out.now) (g.K.Sink.held c.run_steps.new.out) (all_steps_text rules h) (last_line (final rules h)) on)
+    let on = subst (λ (r : Rules). HoldsPrefix (g.K.Sink.tells c.args.out.now).held (g.K.Sink.tells c.run_steps.new.out).held (all_steps_text r h)) same c.in_err-run_steps.ensures.err in
+    at_error c.from_residual-in_err-run_steps.result (holds_longer (g.K.Sink.tells c.args.out.now).held (g.K.Sink.tells c.run_steps.new.out).held (all_steps_text rules h) (last_line (final rules h)) on)
 
 pub returns-in_err-push-clause-err : goal.returns-in_err-push-clause-err
 returns-in_err-push-clause-err g c =
@@ -26,14 +26,14 @@ returns-in_err-push-clause-err g c =
     let now : Rules = rules_of (g.D.Dialect.grammar c.in_ok-session.session.dialect) c.in_ok-session.session.setup in
     let same : now ≡ rules = made_rules g.D.Dialect.grammar c.in_ok-session.session c.args.dialect (record { side = c.args.side; limits = c.args.limits }) c.in_ok-session.ensures.dialect c.in_ok-session.ensures.setup in
     let h : History = c.args.script.now.entries in
-    let steps = subst (λ (r : Rules). g.K.Sink.held c.run_steps.new.out ≡ held_with (g.K.Sink.held c.args.out.now) (all_steps_text r h)) same c.in_ok-run_steps.ensures.ok in
+    let steps = subst (λ (r : Rules). (g.K.Sink.tells c.run_steps.new.out).held ≡ held_with (g.K.Sink.tells c.args.out.now).held (all_steps_text r h)) same c.in_ok-run_steps.ensures.ok in
     let after : Rules = rules_of (g.D.Dialect.grammar c.run_steps.new.session.dialect) c.run_steps.new.session.setup in
     let kept : now ≡ after = sym (same_rules g.D.Dialect.grammar c.run_steps.new.session c.in_ok-session.session c.in_ok-run_steps.ensures.dialect c.in_ok-run_steps.ensures.setup) in
     let at = subst (λ (r : Rules). IsAt r c.run_steps.new.session h) kept c.in_ok-run_steps.ensures.at in
     let ending : c.ending-ending.result ≡ final rules h = c.ending-ending.ensures.ending h at ∙ ap (λ (r : Rules). final r h) (sym kept ∙ same) in
     let line : c.as_bytes.result.now ≡ last_line (final rules h) = c.as_bytes.ensures.value ∙ c.in_ok-last_line.ensures ∙ ap last_line ending in
-    let on = rw line at c.in_err-push.ensures.err in
-    at_error c.from_residual-in_err-push.result (holds_on (g.K.Sink.held c.args.out.now) (g.K.Sink.held c.run_steps.new.out) (g.K.Sink.held c.push.new.self) (all_steps_text rules h) (last_line (final rules h)) [] (transcript_text (transcript rules h)) (append-nil (transcript_text (transcript rules h))) steps on)
+    let on = rw line at c.in_err-push.ensures.part in
+    at_error c.from_residual-in_err-push.result (holds_on (g.K.Sink.tells c.args.out.now).held (g.K.Sink.tells c.run_steps.new.out).held (g.K.Sink.tells c.push.new.self).held (all_steps_text rules h) (last_line (final rules h)) [] (transcript_text (transcript rules h)) (append-nil (transcript_text (transcript rules h))) steps on)
 
 pub returns-clause-ok : goal.returns-clause-ok
 returns-clause-ok g c =
@@ -41,13 +41,13 @@ returns-clause-ok g c =
     let now : Rules = rules_of (g.D.Dialect.grammar c.in_ok-session.session.dialect) c.in_ok-session.session.setup in
     let same : now ≡ rules = made_rules g.D.Dialect.grammar c.in_ok-session.session c.args.dialect (record { side = c.args.side; limits = c.args.limits }) c.in_ok-session.ensures.dialect c.in_ok-session.ensures.setup in
     let h : History = c.args.script.now.entries in
-    let steps = subst (λ (r : Rules). g.K.Sink.held c.run_steps.new.out ≡ held_with (g.K.Sink.held c.args.out.now) (all_steps_text r h)) same c.in_ok-run_steps.ensures.ok in
+    let steps = subst (λ (r : Rules). (g.K.Sink.tells c.run_steps.new.out).held ≡ held_with (g.K.Sink.tells c.args.out.now).held (all_steps_text r h)) same c.in_ok-run_steps.ensures.ok in
     let after : Rules = rules_of (g.D.Dialect.grammar c.run_steps.new.session.dialect) c.run_steps.new.session.setup in
     let kept : now ≡ after = sym (same_rules g.D.Dialect.grammar c.run_steps.new.session c.in_ok-session.session c.in_ok-run_steps.ensures.dialect c.in_ok-run_steps.ensures.setup) in
     let at = subst (λ (r : Rules). IsAt r c.run_steps.new.session h) kept c.in_ok-run_steps.ensures.at in
     let ending : c.ending-ending.result ≡ final rules h = c.ending-ending.ensures.ending h at ∙ ap (λ (r : Rules). final r h) (sym kept ∙ same) in
     let line : c.as_bytes.result.now ≡ last_line (final rules h) = c.as_bytes.ensures.value ∙ c.in_ok-last_line.ensures ∙ ap last_line ending in
-    held_then (g.K.Sink.held c.args.out.now) (g.K.Sink.held c.run_steps.new.out) (g.K.Sink.held c.push.new.self) (all_steps_text rules h) (last_line (final rules h)) steps (rw line at c.in_ok-push.ensures.ok)
+    held_then (g.K.Sink.tells c.args.out.now).held (g.K.Sink.tells c.run_steps.new.out).held (g.K.Sink.tells c.push.new.self).held (all_steps_text rules h) (last_line (final rules h)) steps (rw line at c.in_ok-push.ensures.all)
 
 pub returns-in_err-last_line-clause-err : goal.returns-in_err-last_line-clause-err
 returns-in_err-last_line-clause-err g c =
@@ -55,5 +55,5 @@ returns-in_err-last_line-clause-err g c =
     let now : Rules = rules_of (g.D.Dialect.grammar c.in_ok-session.session.dialect) c.in_ok-session.session.setup in
     let same : now ≡ rules = made_rules g.D.Dialect.grammar c.in_ok-session.session c.args.dialect (record { side = c.args.side; limits = c.args.limits }) c.in_ok-session.ensures.dialect c.in_ok-session.ensures.setup in
     let h : History = c.args.script.now.entries in
-    let steps = subst (λ (r : Rules). g.K.Sink.held c.run_steps.new.out ≡ held_with (g.K.Sink.held c.args.out.now) (all_steps_text r h)) same c.in_ok-run_steps.ensures.ok in
-    at_error c.from_residual-in_err-last_line.result (holds_front (g.K.Sink.held c.args.out.now) (g.K.Sink.held c.run_steps.new.out) (all_steps_text rules h) (last_line (final rules h)) (transcript_text (transcript rules h)) refl steps)
+    let steps = subst (λ (r : Rules). (g.K.Sink.tells c.run_steps.new.out).held ≡ held_with (g.K.Sink.tells c.args.out.now).held (all_steps_text r h)) same c.in_ok-run_steps.ensures.ok in
+    at_error c.from_residual-in_err-last_line.result (holds_front (g.K.Sink.tells c.args.out.now).held (g.K.Sink.tells c.run_steps.new.out).held (all_steps_text rules h) (last_line (final rules h)) (transcript_text (transcript rules h)) refl steps)

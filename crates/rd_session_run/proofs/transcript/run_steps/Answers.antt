@@ -20,8 +20,8 @@ returns-in_err-run_step-clause-err g c =
     let place = c.loop-place.place in
     let within : place + 1 ≤ length h = omega arith in
     let front = begins_all rules h (place + 1) within in
-    let on = subst (λ (r : Rules). HoldsPrefix (g.K.Sink.held c.loop-place.out) (g.K.Sink.held c.run_step.new.out) (step_text r h place)) same c.in_err-run_step.ensures.err in
-    at_error c.from_residual.result (holds_on (g.K.Sink.held c.args.out.now) (g.K.Sink.held c.loop-place.out) (g.K.Sink.held c.run_step.new.out) (steps_text (steps_of rules h place)) (step_text rules h place) front.rest (all_steps_text rules h) (ap (λ x. x ++ front.rest) (one_step rules h place) ∙ front.is) c.loop-place.invariant.held on)
+    let on = subst (λ (r : Rules). HoldsPrefix (g.K.Sink.tells c.loop-place.out).held (g.K.Sink.tells c.run_step.new.out).held (step_text r h place)) same c.in_err-run_step.ensures.err in
+    at_error c.from_residual.result (holds_on (g.K.Sink.tells c.args.out.now).held (g.K.Sink.tells c.loop-place.out).held (g.K.Sink.tells c.run_step.new.out).held (steps_text (steps_of rules h place)) (step_text rules h place) front.rest (all_steps_text rules h) (ap (λ x. x ++ front.rest) (one_step rules h place) ∙ front.is) c.loop-place.invariant.held on)
 
 pub loop-place-preserved : goal.loop-place-preserved
 loop-place-preserved g c =
@@ -30,13 +30,13 @@ loop-place-preserved g c =
     let same : now ≡ rules = same_rules g.D.Dialect.grammar c.loop-place.session c.args.session.now c.loop-place.invariant.dialect c.loop-place.invariant.setup in
     let h : History = c.args.script.now.entries in
     let place = c.loop-place.place in
-    let on = subst (λ (r : Rules). g.K.Sink.held c.run_step.new.out ≡ held_with (g.K.Sink.held c.loop-place.out) (step_text r h place)) same c.in_ok-run_step.ensures.ok in
+    let on = subst (λ (r : Rules). (g.K.Sink.tells c.run_step.new.out).held ≡ held_with (g.K.Sink.tells c.loop-place.out).held (step_text r h place)) same c.in_ok-run_step.ensures.ok in
     record {
       dialect = c.in_ok-run_step.ensures.dialect ∙ c.loop-place.invariant.dialect;
       setup = c.in_ok-run_step.ensures.setup ∙ c.loop-place.invariant.setup;
       at = subst (λ (r : Rules). IsAt r c.run_step.new.session (take (place + 1) h)) same c.in_ok-run_step.ensures.at;
-      held = held_then (g.K.Sink.held c.args.out.now) (g.K.Sink.held c.loop-place.out) (g.K.Sink.held c.run_step.new.out) (steps_text (steps_of rules h place)) (step_text rules h place) c.loop-place.invariant.held on ∙ ap (held_with (g.K.Sink.held c.args.out.now)) (one_step rules h place);
-      faults = omega (arith, c.loop-place.invariant.faults, c.in_ok-run_step.ensures.faults);
-      is_open = c.in_ok-run_step.ensures.stays_open;
-      mark = c.in_ok-run_step.ensures.mark ∙ c.loop-place.invariant.mark;
+      held = held_then (g.K.Sink.tells c.args.out.now).held (g.K.Sink.tells c.loop-place.out).held (g.K.Sink.tells c.run_step.new.out).held (steps_text (steps_of rules h place)) (step_text rules h place) c.loop-place.invariant.held on ∙ ap (held_with (g.K.Sink.tells c.args.out.now).held) (one_step rules h place);
+      faults = omega (arith, c.loop-place.invariant.faults, c.in_ok-run_step.ensures.stays.faults);
+      is_open = c.in_ok-run_step.ensures.stays.stays_open;
+      mark = c.in_ok-run_step.ensures.stays.mark ∙ c.loop-place.invariant.mark;
     }

@@ -14,8 +14,8 @@ invariant-loop-place g l =
       dialect : l.session.dialect ≡ l.fn.session.dialect;
       setup : l.session.setup ≡ l.fn.session.setup;
       at : IsAt rules l.session (take l.place h);
-      held : g.K.Sink.held l.out ≡ held_with (g.K.Sink.held l.fn.out) (steps_text (steps_of rules h l.place));
-      faults : g.K.Sink.faults l.fn.out ≤ g.K.Sink.faults l.out;
-      is_open : g.K.Sink.is_closed l.out ≡ false;
-      mark : g.K.Sink.mark l.out ≡ g.K.Sink.mark l.fn.out;
+      held : (g.K.Sink.tells l.out).held ≡ held_with (g.K.Sink.tells l.fn.out).held (steps_text (steps_of rules h l.place));
+      faults : (g.K.Sink.tells l.fn.out).faults ≤ (g.K.Sink.tells l.out).faults;
+      is_open : (g.K.Sink.tells l.out).is_closed ≡ false;
+      mark : (g.K.Sink.tells l.out).mark ≡ (g.K.Sink.tells l.fn.out).mark;
     }

@@ -5,8 +5,8 @@ use Rattle.rd_session_run.proofs.writing.write_sends.Given as goal
 
 abbrev pub invariant-loop-place : goal.invariant-loop-place
 invariant-loop-place g l = record {
-  held : g.K.Sink.held l.out ≡ held_with (g.K.Sink.held l.fn.out) (sends_text l.step (take l.place l.sends));
-  faults : g.K.Sink.faults l.fn.out ≤ g.K.Sink.faults l.out;
-  is_open : g.K.Sink.is_closed l.out ≡ false;
-  mark : g.K.Sink.mark l.out ≡ g.K.Sink.mark l.fn.out;
+  held : (g.K.Sink.tells l.out).held ≡ held_with (g.K.Sink.tells l.fn.out).held (sends_text l.step (take l.place l.sends));
+  faults : (g.K.Sink.tells l.fn.out).faults ≤ (g.K.Sink.tells l.out).faults;
+  is_open : (g.K.Sink.tells l.out).is_closed ≡ false;
+  mark : (g.K.Sink.tells l.out).mark ≡ (g.K.Sink.tells l.fn.out).mark;
 }
