@@ -1,0 +1,5 @@
+pub mod Spawners
+pub mod MemSpawners
+pub mod Start
+pub mod Way
+pub mod Back
