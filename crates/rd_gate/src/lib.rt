@@ -9,3 +9,6 @@ mod reader;
 pub use gate::{OwnerPass, Passes, ReaderPass, make_gate};
 pub use item::Item;
 pub use reader::{ReaderBack, reader_loop};
+
+#[cfg(test)]
+mod tests;

@@ -12,3 +12,6 @@ pub use reading::{NotStarted, Reading};
 pub use spawner::Spawner;
 pub use start::{join_all, start_all, start_with, take_back};
 pub use thread_spawner::ThreadSpawner;
+
+#[cfg(test)]
+mod tests;

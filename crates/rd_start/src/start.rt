@@ -87,6 +87,7 @@ pub fn start_all<
     requires none_unread { unread.old.items ≡ [] }
     ensures sources { map (λ r. r.0) readings.new.items ++ map (λ n. n.source) unread.new.items ≡ sources.items }
     ensures passes { map (λ r. r.1) readings.new.items ++ map (λ n. n.pass) unread.new.items ++ passes.new ≡ passes.old }
+    ensures count { vec_len readings.new + vec_len unread.new ≡ vec_len sources }
     ensures counts { AllStarted result (P.tells spawner.old).refusals (P.tells spawner.new).refusals }
     ensures all { IsTrue result → unread.new.items ≡ [] }
 {
@@ -116,6 +117,7 @@ pub fn join_all<S: Source, R: Wait + Threads + Copy>(
     requires none { sources.old.items ≡ [] }
     requires gates { All (λ r. r.1.gate ≡ owner.old.gate) readings.items }
     ensures count { vec_len sources.new ≡ vec_len readings }
+    ensures room { vec_capacity sources.new ≡ vec_capacity sources.old }
     ensures gate { owner.new.gate ≡ owner.old.gate }
     ensures knows { owner.new.knows ≡ with_ended owner.old.knows owner.new.knows.ended }
     ensures backs { (k : ℕ) (r : S × Known) (s : S) → slice_get readings.items k ≡ Some r → slice_get sources.new.items k ≡ Some s

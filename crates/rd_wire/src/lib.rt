@@ -8,3 +8,6 @@ mod wire;
 pub use sink::WireSink;
 pub use source::WireSource;
 pub use wire::mem_wire;
+
+#[cfg(test)]
+mod tests;

@@ -53,8 +53,7 @@ impl<R: Wait + Copy> WireSink<R> {
     }
 
     fn tell(&self) {
-        self.wire
-            .tell(&self.rt, self.sink.as_slice().len(), self.sink.is_closed());
+        self.wire.tell(&self.rt, self.sink.as_slice().len(), self.sink.is_closed());
     }
 }
 

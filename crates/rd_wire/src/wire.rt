@@ -33,11 +33,9 @@ impl Wire {
 
     /// Waits until the sink holds this many bytes, or was closed.
     pub(crate) fn wait_for<R: Wait>(&self, rt: &R, bytes: u64) {
-        let _sent = self
-            .changed
-            .wait_while(rt, self.sent.lock(rt), |sent| {
-                sent.bytes < bytes && !sent.closed
-            });
+        let _sent = self.changed.wait_while(rt, self.sent.lock(rt), |sent| {
+            sent.bytes < bytes && !sent.closed
+        });
     }
 }
 

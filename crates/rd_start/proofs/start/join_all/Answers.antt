@@ -22,6 +22,7 @@ loop-reading-preserved g c =
     record {
       count = (let len = c.push_reserved.ensures.len in let n = inv.count in omega (arith, len, n, length-append c.loop-reading.yielded (c.in-Some.reading ∷ [])));
       room = (let cap = c.push_reserved.ensures.capacity in let n = inv.room in omega (arith, cap, n));
+      same_room = c.push_reserved.ensures.capacity ∙ c.loop-reading.invariant.same_room;
       gate = c.take_in.ensures.gate ∙ inv.gate;
       knows = knows ∙ ap (λ (v : View). joined v c.join-back.result.pass.knows) inv.knows ∙ sym (ap (λ (v : View). with_ended c.args.owner.now.knows v.ended) knows);
       backs = λ k r s at_r at_s. backs_more g.S.Source.tells c.loop-reading.yielded c.loop-reading.sources.items c.loop-reading.owner.knows c.take_in.new.self.knows c.in-Some.reading c.join-back.result.source c.join-back.result.pass.knows

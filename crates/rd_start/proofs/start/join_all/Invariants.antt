@@ -8,6 +8,7 @@ abbrev pub invariant-loop-reading : goal.invariant-loop-reading
 invariant-loop-reading g l = record {
   count : vec_len l.sources ≡ length l.yielded;
   room : vec_len l.fn.readings ≤ vec_capacity l.sources;
+  same_room : vec_capacity l.sources ≡ vec_capacity l.fn.sources;
   gate : l.owner.gate ≡ l.fn.owner.gate;
   knows : l.owner.knows ≡ with_ended l.fn.owner.knows l.owner.knows.ended;
   backs : (k : ℕ) (r : g.row.S.Denot × Known) (s : g.row.S.Denot) → slice_get l.yielded k ≡ Some r → slice_get l.sources.items k ≡ Some s
