@@ -1,8 +1,7 @@
 -- Passes of a new gate are of that gate.
-use Rattle.std.proofs.Common.{◌≡◌, ◌≤◌, ℕ, zero, suc, List, [], ◌∷◌, ◌++◌, map, refl, sym, ap, ◌∙◌, subst, All, All-append}
+use Rattle.std.proofs.Common.{◌≡◌, ℕ, zero, suc, List, [], ◌∷◌, ◌++◌, map, refl, sym, subst, All}
 use Rattle.std.specs.List.{AllByRecursion as Each}
-use Rattle.std.proofs.lemmas.List.{All-from_recursion}
-use Rattle.atomic_table.specs.Seated.{TableId}
+use Rattle.std.proofs.lemmas.List.Elements.{All-from_recursion}
 use Rattle.rd_gate.specs.Gate.{Known, known, reader, fresh}
 
 each_snoc : {X : Type 0} (P : X → Type 0) (xs : List X) (y : X) → Each P xs → P y → Each P (xs ++ y ∷ [])
@@ -21,20 +20,25 @@ each_map : {X Y : Type 0} (P : X → Type 0) (f : Y → X) (ys : List Y) → Eac
 each_map P f [] h = tt
 each_map P f (y ∷ ys) h = (h.0, each_map P f ys h.1)
 
-abbrev IsOf : TableId → Known → Type 0
-IsOf gate k = k.gate ≡ gate
+abbrev IsWith : Known → Known → Type 0
+IsWith owner k = k.gate ≡ owner.gate
 
-fresh_gates : (gate : TableId) (n : ℕ) → Each (IsOf gate) (fresh gate n)
-fresh_gates gate zero = tt
-fresh_gates gate (suc n) = each_snoc (IsOf gate) (fresh gate n) (known gate (reader n [])) (fresh_gates gate n) refl
+fresh_gates : (owner : Known) (n : ℕ) → Each (IsWith owner) (fresh owner.gate n)
+fresh_gates owner zero = tt
+fresh_gates owner (suc n) = each_snoc (IsWith owner) (fresh owner.gate n) (known owner.gate (reader n [])) (fresh_gates owner n) refl
 
--- those that readers were started with, and those that come back
-pub gates_started : {X Y : Type 0} (pass : X → Known) (pass' : Y → Known) (gate : TableId) (n : ℕ) (xs : List X) (ys : List Y) (left : List Known) → map pass xs ++ map pass' ys ++ left ≡ fresh gate n
-    → All (λ x. (pass x).gate ≡ gate) xs
-gates_started pass pass' gate n xs ys left e =
-    All-from_recursion (λ x. (pass x).gate ≡ gate) xs (each_map (IsOf gate) pass xs (each_front (IsOf gate) (map pass xs) (map pass' ys ++ left) (subst (Each (IsOf gate)) (sym e) (fresh_gates gate n))))
+-- an owner's gate is what it was when the passes were made: those that readers were started with are of it
+pub gates_started : {X Y : Type 0} (started : X → Known) (unread : Y → Known) (owner first : Known) (n : ℕ) (xs : List X) (ys : List Y) (left : List Known)
+    → first.gate ≡ owner.gate → map started xs ++ map unread ys ++ left ≡ fresh first.gate n → All (λ x. (started x).gate ≡ owner.gate) xs
+gates_started started unread owner first n xs ys left same e =
+    let all = each_front (IsWith first) (map started xs ++ map unread ys) left (subst (Each (IsWith first)) (sym e) (fresh_gates first n)) in
+    let these = each_map (IsWith first) started xs (each_front (IsWith first) (map started xs) (map unread ys) all) in
+    All-from_recursion (λ x. (started x).gate ≡ owner.gate) xs (subst (λ t. Each (λ x. (started x).gate ≡ t) xs) same these)
 
-pub gates_unread : {X Y : Type 0} (pass : X → Known) (pass' : Y → Known) (gate : TableId) (n : ℕ) (xs : List X) (ys : List Y) (left : List Known) → map pass xs ++ map pass' ys ++ left ≡ fresh gate n
-    → All (λ y. (pass' y).gate ≡ gate) ys
-gates_unread pass pass' gate n xs ys left e =
-    All-from_recursion (λ y. (pass' y).gate ≡ gate) ys (each_map (IsOf gate) pass' ys (each_front (IsOf gate) (map pass' ys) left (each_rest (IsOf gate) (map pass xs) (map pass' ys ++ left) (subst (Each (IsOf gate)) (sym e) (fresh_gates gate n)))))
+-- and those that come back
+pub gates_unread : {X Y : Type 0} (started : X → Known) (unread : Y → Known) (owner first : Known) (n : ℕ) (xs : List X) (ys : List Y) (left : List Known)
+    → first.gate ≡ owner.gate → map started xs ++ map unread ys ++ left ≡ fresh first.gate n → All (λ y. (unread y).gate ≡ owner.gate) ys
+gates_unread started unread owner first n xs ys left same e =
+    let all = each_front (IsWith first) (map started xs ++ map unread ys) left (subst (Each (IsWith first)) (sym e) (fresh_gates first n)) in
+    let these = each_map (IsWith first) unread ys (each_rest (IsWith first) (map started xs) (map unread ys) all) in
+    All-from_recursion (λ y. (unread y).gate ≡ owner.gate) ys (subst (λ t. Each (λ y. (unread y).gate ≡ t) ys) same these)

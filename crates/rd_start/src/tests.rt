@@ -1,7 +1,9 @@
-ghost use Rattle.std.specs.Prelude.{◌≡◌, ◌≤◌, All, IfOk, vec_len};
+ghost use Rattle.std.specs.Prelude.{◌≡◌, ◌≤◌, ◌+◌, [], All, IfOk, vec_len, vec_capacity};
 ghost use Rattle.rd_base.specs.MemSource.{IsPiece};
 
-use crate::{MemSpawner, Spawner, ThreadSpawner, join_all, start_all, take_back};
+use crate::{
+    MemSpawner, NotStarted, Reading, Spawner, ThreadSpawner, join_all, start_all, take_back,
+};
 use rd_base::{Bytes, Give, Link, MemSource, NoMemory, Source};
 use rd_gate::{Item, OwnerPass, make_gate};
 use std::alloc::Global;
@@ -26,7 +28,7 @@ fn pieces(alloc: Global, link: u8) -> Result<Vec<Bytes>, NoMemory>
     ensures { IfOk result (λ v. All IsPiece v.items) }
 {
     let mut pieces = Vec::new(alloc);
-    for _ in 0..100u8 {
+    for _count in 0..100u8 {
         let piece = Bytes::from_slice(alloc, &[b'0'.saturating_add(link)])?;
         pieces.push(piece)?;
     }
@@ -86,13 +88,28 @@ fn next_of(alloc: Global, sources: &mut Vec<MemSource>) -> Result<String, Fail> 
     Ok(text)
 }
 
+/// Joins the readers that were started, and gives back those that weren't.
+fn close<R: Wait + Threads + Copy>(
+    owner: &mut OwnerPass<R>,
+    readings: Vec<Reading<MemSource, R>>,
+    unread: Vec<NotStarted<MemSource, R>>,
+    back: &mut Vec<MemSource>,
+)
+    requires room { vec_len readings + vec_len unread ≤ vec_capacity back.old }
+    requires none { back.old.items ≡ [] }
+    requires gates { All (λ r. r.1.gate ≡ owner.old.gate) readings.items }
+    requires gates_unread { All (λ n. n.pass.gate ≡ owner.old.gate) unread.items }
+{
+    join_all(owner, readings, back);
+    take_back(owner, unread, back);
+}
+
 /// Four readers are started, drained and joined: whether all were started, what each gave, and what is left of each.
-#[tactic(auto, using(crate::proofs::Gates::gates_started, crate::proofs::Gates::gates_unread))]
 fn run<P: Spawner, R: Wait + Threads + Copy + Send + Sync + 'static>(
     rt: R,
     alloc: Global,
     spawner: &mut P,
-) -> Result<(bool, [u32; 4], String), Fail> {
+) -> Result<(bool, [u32; 4], Vec<MemSource>), NoMemory> {
     let sources = sources(alloc)?;
     let mut readings = Vec::with_capacity(alloc, 4)?;
     let mut unread = Vec::with_capacity(alloc, 4)?;
@@ -108,16 +125,16 @@ fn run<P: Spawner, R: Wait + Threads + Copy + Send + Sync + 'static>(
         &mut unread,
     );
     let counts = drain(&mut owner, readings.len());
-    join_all(&mut owner, readings, &mut back);
-    take_back(&mut owner, unread, &mut back);
-    let next = next_of(alloc, &mut back)?;
-    Ok((all, counts, next))
+    close(&mut owner, readings, unread, &mut back);
+    Ok((all, counts, back))
 }
 
 #[test]
 fn readers_that_are_started(rt: HostRuntime) -> Result<(), Fail> {
     let mut spawner = ThreadSpawner::new();
-    let (all, counts, next) = run(rt, rt.alloc(), &mut spawner)?;
+    let alloc = rt.alloc();
+    let (all, counts, mut back) = run(rt, alloc, &mut spawner)?;
+    let next = next_of(alloc, &mut back)?;
     assert!(rt; all);
     assert_eq!(rt; counts, [100, 100, 100, 100]);
     assert_eq!(rt; next.as_str(), "....");
@@ -136,7 +153,8 @@ fn starts_that_are_refused(rt: HostRuntime) -> Result<(), Fail> {
         (4, [100, 100, 100, 100], "...."),
     ] {
         let mut spawner = MemSpawner::new(alloc, vec![in alloc; start]?);
-        let (all, given, left) = run(rt, alloc, &mut spawner)?;
+        let (all, given, mut back) = run(rt, alloc, &mut spawner)?;
+        let left = next_of(alloc, &mut back)?;
         assert_eq!(rt; all, start == 4);
         assert_eq!(rt; given, counts);
         assert_eq!(rt; left.as_str(), next);
