@@ -36,7 +36,7 @@ all_snoc : (F : ℕ → View → Type 0) (views : List View) (w : View) → AllO
 all_snoc F views w all mine j u e = ⊎_elim (all j u) (λ (x : (j ≡ length views) × (w ≡ u)). subst (λ (y : ℕ × View). F y.0 y.1) (λ i. (sym x.0 i, x.1 i)) mine) (at_end views w u j e)
 
 -- the items of a link in two lists
-of-append : (p : ℕ) (xs ys : List (ℕ × Item)) → of p (xs ++ ys) ≡ of p xs ++ of p ys
+pub of-append : (p : ℕ) (xs ys : List (ℕ × Item)) → of p (xs ++ ys) ≡ of p xs ++ of p ys
 of-append p [] ys = refl
 of-append p (x ∷ xs) ys = let P : Bool → Type 0 = λ b. cond b (x.1 ∷ of p (xs ++ ys)) (of p (xs ++ ys)) ≡ cond b (x.1 ∷ of p xs) (of p xs) ++ of p ys in
     elim (x.0 == p) as P [ true ↦ ap (λ l. x.1 ∷ l) (of-append p xs ys) | false ↦ of-append p xs ys ]

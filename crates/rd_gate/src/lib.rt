@@ -4,10 +4,12 @@
 
 mod gate;
 mod item;
+mod laws;
 mod reader;
 
 pub use gate::{OwnerPass, Passes, ReaderPass, make_gate};
 pub use item::Item;
+pub use laws::gate_laws;
 pub use reader::{ReaderBack, reader_loop};
 
 #[cfg(test)]
