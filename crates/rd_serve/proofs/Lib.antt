@@ -1,0 +1,4 @@
+pub mod Telling
+pub mod Times
+pub mod Outs
+pub mod Counted

@@ -1,0 +1,68 @@
+-- Sessions that run on threads of their own, beside what the doors tell.
+use Rattle.std.specs.Prelude.{◌≡◌, ℕ, ◌==◌, ◌+◌, ◌≤◌, List, [], ◌∷◌, length, map, Option, Some, None, Vec, vec_len, vec_capacity}
+use Rattle.rd_base.specs.Outside.{SinkTold}
+use Rattle.rd_base.specs.Sources.{SourceTold}
+use Rattle.rd_base.specs.declared.values.Side.{Side}
+use Rattle.rd_doors.specs.declared.visit.Ends.{Ends}
+use Rattle.rd_doors.specs.Visits.{EndsTold, RunTold, Entry, Gave, AreFresh, ends_told, run_told}
+use Rattle.rd_doors.specs.Calls.{DoorsTold}
+use Rattle.rd_runner.specs.declared.left.Summary.{Summary}
+use Rattle.rd_runner.specs.Runs.{Setup, Ran}
+use Rattle.rd_runner.specs.Counts.{RunnerTold, RoseBy, stopped, unstarted, late}
+use Rattle.rd_serve.specs.declared.session.Served.{Served}
+use Rattle.rd_serve.specs.declared.session.Session.{Session}
+use Rattle.rd_serve.specs.Serving.{Has, one_if}
+
+-- P holds of each
+abbrev pub Each : {X : Type 0} → (X → Type 0) → List X → Type 0
+Each P [] = Unit {0}
+Each P (x ∷ xs) = P x × Each P xs
+
+-- how often a number stands here
+abbrev pub times : ℕ → List ℕ → ℕ
+times n [] = 0
+times n (m ∷ ms) = one_if (m == n) + times n ms
+
+-- how often a number is that of a visit that waits to be judged
+abbrev pub times_waits : ℕ → Option ℕ → ℕ
+times_waits n None = 0
+times_waits n (Some m) = one_if (m == n)
+
+-- how many visits wait to be judged
+abbrev pub waits : Option ℕ → ℕ
+waits None = 0
+waits (Some m) = 1
+
+module _ {S K L Q : Type 0} (source : S → SourceTold) (sink : K → SinkTold) (summary : L → Summary) (tells : Q → RunnerTold) (by : Setup → Side → EndsTold → RunTold L → Type 0) where
+  -- what a session's thread promises of what it gives, in terms of what it was handed, where its runner counted from 0
+  pub record Keeps (setup : Setup) (side : Side) (ends : Ends S K) (served : Served S K L Q) : Type 0 where
+    pub ran : Ran by setup side (ends_told source sink ends) (run_told source sink ends.number served.ended.run served.ended.sinks.items)
+    pub yeses : RoseBy (stopped (summary served.ended.run.left).ending) 0 (tells served.runner).yeses
+    pub refusals : RoseBy (unstarted (summary served.ended.run.left).ending) 0 (tells served.runner).refusals
+    pub span : late (summary served.ended.run.left).last (summary served.ended.run.left).ending ≤ (tells served.runner).span
+
+module _ {S K L Q : Type 0} (source : S → SourceTold) (sink : K → SinkTold) (tells : Q → RunnerTold) where
+  -- a session runs over a visit that the doors have told
+  pub record IsOut (setup : Setup) (doors : DoorsTold L) (s : Session S K L Q) : Type 0 where
+    pub held_to : (tells s.handle.promise.runner.value).setup ≡ setup
+    pub side : s.handle.promise.side ≡ s.side
+    pub ends : s.handle.promise.ends.value ≡ s.ends.value
+    pub number : s.ends.value.number ≡ s.number
+    pub fresh : AreFresh setup.limits.copies (ends_told source sink s.ends.value)
+    pub given : (told : List (Entry L)) → doors.told ≡ Some told → Has (Gave s.side (ends_told source sink s.ends.value)) told
+
+  -- the visits that are out are those of these sessions, and the one that waits to be judged
+  pub record AreOut (setup : Setup) (doors : DoorsTold L) (waiting : Option ℕ) (sessions : List (Session S K L Q)) : Type 0 where
+    pub each : Each (λ s. IsOut setup doors s) sessions
+    pub same : (n : ℕ) → times n doors.out ≡ times_waits n waiting + times n (map (λ s. s.number) sessions)
+    pub count : length doors.out ≡ waits waiting + length sessions
+
+-- what was told is still told
+abbrev pub KeepsTold : {L : Type 0} → DoorsTold L → DoorsTold L → Type 0
+KeepsTold {L} before after = (e : Entry L) → ((told : List (Entry L)) → before.told ≡ Some told → Has e told) → (told : List (Entry L)) → after.told ≡ Some told → Has e told
+
+-- 32 flags, each of a session or free
+pub record HasRoom {X A Y B : Type 0} (sessions : Vec X A) (flags : Vec Y B) : Type 0 where
+  pub count : vec_len sessions + vec_len flags ≡ 32
+  pub sessions_room : 32 ≤ vec_capacity sessions
+  pub flags_room : 32 ≤ vec_capacity flags
