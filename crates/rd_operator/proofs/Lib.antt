@@ -1,0 +1,5 @@
+pub mod Floats
+pub mod Digits
+pub mod Heard
+pub mod Words
+pub mod HeadWords
