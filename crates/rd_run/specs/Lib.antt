@@ -1,0 +1,5 @@
+pub mod Leaving
+pub mod Ran
+pub mod Links
+pub mod Logs
+pub mod Whole
