@@ -1,8 +1,7 @@
 -- Links whose readers have ended.
-use Rattle.std.proofs.Common.{◌≡◌, ℕ, Bool, true, false, not, ◌||◌, List, [], ◌∷◌, ◌++◌, sym, ap, ◌∙◌, append-nil, refl}
+use Rattle.std.proofs.Common.{◌≡◌, true, not, ◌||◌, List, [], ◌∷◌, ◌++◌, sym, ap, ◌∙◌, append-nil}
 use Rattle.std.specs.List.{AllByRecursion as Each}
 use Rattle.rd_gate.specs.declared.item.Item.{Item}
-use Rattle.rd_gate.specs.declared.gate.View.{View}
 use Rattle.rd_gate.specs.Gate.{of}
 use Rattle.rd_gate.specs.Items.{is_piece}
 use Rattle.rd_gate.specs.Ends.{has_last, BeginsEnded, TakesEnded}

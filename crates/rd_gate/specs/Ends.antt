@@ -3,9 +3,8 @@ use Rattle.std.specs.Prelude.{◌≡◌, ℕ, Bool, true, false, not, ◌||◌, 
 use Rattle.std.specs.List.{AllByRecursion as Each}
 use Rattle.rd_base.specs.Outside.{IsPrefixOf}
 use Rattle.rd_gate.specs.declared.item.Item.{Item}
-use Rattle.rd_gate.specs.declared.gate.Ended.{Ended}
 use Rattle.rd_gate.specs.declared.gate.View.{View}
-use Rattle.rd_gate.specs.Gate.{of, Whole}
+use Rattle.rd_gate.specs.Gate.{of}
 use Rattle.rd_gate.specs.Items.{is_piece}
 
 -- an item that is no piece is among these
