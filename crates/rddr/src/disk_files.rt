@@ -19,9 +19,7 @@ impl<'a, R: std::rt::Files> DiskFiles<'a, R> {
 }
 
 impl<'a, R: std::rt::Files> rd_base::Files for DiskFiles<'a, R> {
-    ghost files = { λ _. None };
-
-    ghost faults = { λ f. f.faults };
+    ghost tells = { λ f. record { files = None; faults = f.faults } };
 
     fn read_all(&mut self, alloc: Global, name: &str, most: usize) -> Result<Bytes, FileFail> {
         match read_file(self.rt, alloc, name, most) {

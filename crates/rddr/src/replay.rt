@@ -1,5 +1,5 @@
 ghost use Rattle.std.specs.Prelude.{◌≡◌, ◌≢◌, ◌≤◌, ◌↔◌, true, false, List, ℕ, map, Some, None, Err, string_bytes, IfOk, OnOk, OnErr};
-ghost use Rattle.rd_base.specs.Outside.{NamedFile, HoldsPrefix, Rose, held_with};
+ghost use Rattle.rd_base.specs.Outside.{HoldsPrefix, NamedFile, Rose, StaysOpen, StaysRead, held_with};
 ghost use Rattle.rddr.specs.Forms.{form_of};
 ghost use Rattle.rd_rules.specs.Sent.{transcript, final};
 ghost use Rattle.rd_session_run.specs.Transcripts.{transcript_text};
@@ -84,25 +84,22 @@ pub fn replay_main<F: Files, K: Sink>(
     files: &mut F,
     out: &mut K,
 ) -> u8
-    requires { K.is_closed out.old ≡ false }
+    requires { (K.tells out.old).is_closed ≡ false }
     ensures range { result ≤ 6 }
-    ensures status { (all : List NamedFile) → F.files files.old ≡ Some all → result ≤ 3
+    ensures status { (all : List NamedFile) → (F.tells files.old).files ≡ Some all → result ≤ 3
         → result ≡ (outcome (map string_bytes words.now) all).status }
-    ensures text { (all : List NamedFile) → F.files files.old ≡ Some all → result ≤ 3
-        → K.held out.new ≡ held_with (K.held out.old) (outcome (map string_bytes words.now) all).text }
-    ensures prefix { (all : List NamedFile) → F.files files.old ≡ Some all
-        → HoldsPrefix (K.held out.old) (K.held out.new) (outcome (map string_bytes words.now) all).text }
+    ensures text { (all : List NamedFile) → (F.tells files.old).files ≡ Some all → result ≤ 3
+        → (K.tells out.new).held ≡ held_with (K.tells out.old).held (outcome (map string_bytes words.now) all).text }
+    ensures prefix { (all : List NamedFile) → (F.tells files.old).files ≡ Some all
+        → HoldsPrefix (K.tells out.old).held (K.tells out.new).held (outcome (map string_bytes words.now) all).text }
     ensures other_words { form_of (map string_bytes words.now) ≡ None → result ≤ 3
-        → (result ≡ 2) × (K.held out.new ≡ held_with (K.held out.old) usage.text) }
+        → (result ≡ 2) × ((K.tells out.new).held ≡ held_with (K.tells out.old).held usage.text) }
     ensures two { result ≡ 2 → form_of (map string_bytes words.now) ≡ None }
-    ensures four { result ≡ 4 → Rose (F.faults files.old) (F.faults files.new)
-        × (K.held out.new ≡ K.held out.old) }
-    ensures five { result ≡ 5 → Rose (K.faults out.old) (K.faults out.new) }
-    ensures files { F.files files.new ≡ F.files files.old }
-    ensures reads { F.faults files.old ≤ F.faults files.new }
-    ensures writes { K.faults out.old ≤ K.faults out.new }
-    ensures stays_open { K.is_closed out.new ≡ false }
-    ensures mark { K.mark out.new ≡ K.mark out.old }
+    ensures four { result ≡ 4 → Rose (F.tells files.old).faults (F.tells files.new).faults
+        × ((K.tells out.new).held ≡ (K.tells out.old).held) }
+    ensures five { result ≡ 5 → Rose (K.tells out.old).faults (K.tells out.new).faults }
+    ensures reads { StaysRead (F.tells files.old) (F.tells files.new) }
+    ensures stays { StaysOpen (K.tells out.old) (K.tells out.new) }
 {
     match answer(alloc, words, files, out) {
         Ok(status) => status,
@@ -118,26 +115,23 @@ fn answer<F: Files, K: Sink>(
     files: &mut F,
     out: &mut K,
 ) -> Result<u8, Fault>
-    requires { K.is_closed out.old ≡ false }
+    requires { (K.tells out.old).is_closed ≡ false }
     ensures range { IfOk result (λ status. status ≤ 3) }
-    ensures status { IfOk result (λ status. (all : List NamedFile) → F.files files.old ≡ Some all
+    ensures status { IfOk result (λ status. (all : List NamedFile) → (F.tells files.old).files ≡ Some all
         → status ≡ (outcome (map string_bytes words.now) all).status) }
-    ensures text { OnOk result ((all : List NamedFile) → F.files files.old ≡ Some all
-        → K.held out.new ≡ held_with (K.held out.old) (outcome (map string_bytes words.now) all).text) }
-    ensures prefix { OnErr result ((all : List NamedFile) → F.files files.old ≡ Some all
-        → HoldsPrefix (K.held out.old) (K.held out.new) (outcome (map string_bytes words.now) all).text) }
-    ensures other_words { OnOk result (form_of (map string_bytes words.now) ≡ None → K.held out.new
-        ≡ held_with (K.held out.old) usage.text) }
+    ensures text { OnOk result ((all : List NamedFile) → (F.tells files.old).files ≡ Some all
+        → (K.tells out.new).held ≡ held_with (K.tells out.old).held (outcome (map string_bytes words.now) all).text) }
+    ensures prefix { OnErr result ((all : List NamedFile) → (F.tells files.old).files ≡ Some all
+        → HoldsPrefix (K.tells out.old).held (K.tells out.new).held (outcome (map string_bytes words.now) all).text) }
+    ensures other_words { OnOk result (form_of (map string_bytes words.now) ≡ None → (K.tells out.new).held
+        ≡ held_with (K.tells out.old).held usage.text) }
     ensures two { IfOk result (λ status. (status ≡ 2) ↔ (form_of (map string_bytes words.now)
         ≡ None)) }
     ensures read_fail { result ≡ Err Fault.ReadFail
-        → Rose (F.faults files.old) (F.faults files.new) × (K.held out.new ≡ K.held out.old) }
-    ensures write_fail { result ≡ Err Fault.WriteFail → Rose (K.faults out.old) (K.faults out.new) }
-    ensures files { F.files files.new ≡ F.files files.old }
-    ensures reads { F.faults files.old ≤ F.faults files.new }
-    ensures writes { K.faults out.old ≤ K.faults out.new }
-    ensures stays_open { K.is_closed out.new ≡ false }
-    ensures mark { K.mark out.new ≡ K.mark out.old }
+        → Rose (F.tells files.old).faults (F.tells files.new).faults × ((K.tells out.new).held ≡ (K.tells out.old).held) }
+    ensures write_fail { result ≡ Err Fault.WriteFail → Rose (K.tells out.old).faults (K.tells out.new).faults }
+    ensures reads { StaysRead (F.tells files.old) (F.tells files.new) }
+    ensures stays { StaysOpen (K.tells out.old) (K.tells out.new) }
 {
     match work_of(alloc, words, files) {
         Ok(work) => perform(alloc, work, out),
@@ -147,19 +141,17 @@ fn answer<F: Files, K: Sink>(
 
 /// Does what is left to do once all files were read.
 fn perform<K: Sink>(alloc: Global, work: Work, out: &mut K) -> Result<u8, Fault>
-    requires is_open { K.is_closed out.old ≡ false }
+    requires is_open { (K.tells out.old).is_closed ≡ false }
     requires ready { IsReady work }
     ensures status { IfOk result (λ status. status ≡ (work_outcome work).status) }
     ensures range { IfOk result (λ status. status ≤ 1) }
-    ensures text { OnOk result (K.held out.new ≡ held_with (K.held out.old)
+    ensures text { OnOk result ((K.tells out.new).held ≡ held_with (K.tells out.old).held
         (work_outcome work).text) }
-    ensures prefix { OnErr result (HoldsPrefix (K.held out.old) (K.held out.new)
+    ensures prefix { OnErr result (HoldsPrefix (K.tells out.old).held (K.tells out.new).held
         (work_outcome work).text) }
     ensures read_fail { result ≢ Err Fault.ReadFail }
-    ensures write_fail { result ≡ Err Fault.WriteFail → Rose (K.faults out.old) (K.faults out.new) }
-    ensures writes { K.faults out.old ≤ K.faults out.new }
-    ensures stays_open { K.is_closed out.new ≡ false }
-    ensures mark { K.mark out.new ≡ K.mark out.old }
+    ensures write_fail { result ≡ Err Fault.WriteFail → Rose (K.tells out.old).faults (K.tells out.new).faults }
+    ensures stays { StaysOpen (K.tells out.old) (K.tells out.new) }
 {
     match work {
         Work::Check => {
@@ -185,20 +177,18 @@ fn replay<K: Sink>(
     script: &Script,
     out: &mut K,
 ) -> Result<u8, Fault>
-    requires is_open { K.is_closed out.old ≡ false }
+    requires is_open { (K.tells out.old).is_closed ≡ false }
     requires ready { CanRun limits script.now }
     ensures status { IfOk result (λ status. status ≡
         (replay_outcome dialect names.now limits script.now).status) }
     ensures range { IfOk result (λ status. status ≤ 1) }
-    ensures text { OnOk result (K.held out.new ≡ held_with (K.held out.old)
+    ensures text { OnOk result ((K.tells out.new).held ≡ held_with (K.tells out.old).held
         (replay_outcome dialect names.now limits script.now).text) }
-    ensures prefix { OnErr result (HoldsPrefix (K.held out.old) (K.held out.new)
+    ensures prefix { OnErr result (HoldsPrefix (K.tells out.old).held (K.tells out.new).held
         (replay_outcome dialect names.now limits script.now).text) }
     ensures read_fail { result ≢ Err Fault.ReadFail }
-    ensures write_fail { result ≡ Err Fault.WriteFail → Rose (K.faults out.old) (K.faults out.new) }
-    ensures writes { K.faults out.old ≤ K.faults out.new }
-    ensures stays_open { K.is_closed out.new ≡ false }
-    ensures mark { K.mark out.new ≡ K.mark out.old }
+    ensures write_fail { result ≡ Err Fault.WriteFail → Rose (K.tells out.old).faults (K.tells out.new).faults }
+    ensures stays { StaysOpen (K.tells out.old) (K.tells out.new) }
 {
     let ending = run_in_dialect(alloc, dialect, names, limits, script, out)?;
     Ok(status_of(ending))
@@ -213,19 +203,17 @@ fn run_in_dialect<K: Sink>(
     script: &Script,
     out: &mut K,
 ) -> Result<Option<Ending>, ScriptFail>
-    requires is_open { K.is_closed out.old ≡ false }
+    requires is_open { (K.tells out.old).is_closed ≡ false }
     requires ready { CanRun limits script.now }
     ensures ending { IfOk result (λ ending. ending ≡ final
         (session_rules dialect names.now limits script.now.side) script.now.entries) }
-    ensures text { OnOk result (K.held out.new ≡ held_with (K.held out.old)
+    ensures text { OnOk result ((K.tells out.new).held ≡ held_with (K.tells out.old).held
         (transcript_text (transcript (session_rules dialect names.now limits script.now.side) script.now.entries))) }
-    ensures prefix { OnErr result (HoldsPrefix (K.held out.old) (K.held out.new)
+    ensures prefix { OnErr result (HoldsPrefix (K.tells out.old).held (K.tells out.new).held
         (transcript_text (transcript (session_rules dialect names.now limits script.now.side) script.now.entries))) }
     ensures write_fail { result ≡ Err ScriptFail.WriteFail
-        → Rose (K.faults out.old) (K.faults out.new) }
-    ensures writes { K.faults out.old ≤ K.faults out.new }
-    ensures stays_open { K.is_closed out.new ≡ false }
-    ensures mark { K.mark out.new ≡ K.mark out.old }
+        → Rose (K.tells out.old).faults (K.tells out.new).faults }
+    ensures stays { StaysOpen (K.tells out.old) (K.tells out.new) }
 {
     let side = script.side();
     match dialect {
@@ -248,19 +236,17 @@ fn generate_and_run<K: Sink>(
     number: u16,
     out: &mut K,
 ) -> Result<u8, Fault>
-    requires is_open { K.is_closed out.old ≡ false }
+    requires is_open { (K.tells out.old).is_closed ≡ false }
     requires ready { CanGenerate limits number }
     ensures status { IfOk result (λ status. status ≡ (generate_under limits number).status) }
     ensures range { IfOk result (λ status. status ≤ 1) }
-    ensures text { OnOk result (K.held out.new ≡ held_with (K.held out.old)
+    ensures text { OnOk result ((K.tells out.new).held ≡ held_with (K.tells out.old).held
         (generate_under limits number).text) }
-    ensures prefix { OnErr result (HoldsPrefix (K.held out.old) (K.held out.new)
+    ensures prefix { OnErr result (HoldsPrefix (K.tells out.old).held (K.tells out.new).held
         (generate_under limits number).text) }
     ensures read_fail { result ≢ Err Fault.ReadFail }
-    ensures write_fail { result ≡ Err Fault.WriteFail → Rose (K.faults out.old) (K.faults out.new) }
-    ensures writes { K.faults out.old ≤ K.faults out.new }
-    ensures stays_open { K.is_closed out.new ≡ false }
-    ensures mark { K.mark out.new ≡ K.mark out.old }
+    ensures write_fail { result ≡ Err Fault.WriteFail → Rose (K.tells out.old).faults (K.tells out.new).faults }
+    ensures stays { StaysOpen (K.tells out.old) (K.tells out.new) }
 {
     let script = generate(alloc, limits.copies, number)?;
     let summary = summarize(alloc, Side::Incoming, Line, limits, &script)?;
@@ -270,21 +256,19 @@ fn generate_and_run<K: Sink>(
 
 /// Prints why nothing is run.
 fn refuse<K: Sink>(alloc: Global, refusal: Refusal, out: &mut K) -> Result<u8, Fault>
-    requires { K.is_closed out.old ≡ false }
+    requires { (K.tells out.old).is_closed ≡ false }
     ensures told { OnOk result (is_told refusal ≡ true) }
     ensures status { IfOk result (λ status. status ≡ (refusal_outcome refusal).status) }
     ensures range { IfOk result (λ status. status ≤ 3) }
     ensures two { IfOk result (λ status. (status ≡ 2) ↔ (refusal ≡ Refusal.Words)) }
-    ensures text { OnOk result (K.held out.new ≡ held_with (K.held out.old)
+    ensures text { OnOk result ((K.tells out.new).held ≡ held_with (K.tells out.old).held
         (refusal_outcome refusal).text) }
-    ensures prefix { OnErr result (HoldsPrefix (K.held out.old) (K.held out.new)
+    ensures prefix { OnErr result (HoldsPrefix (K.tells out.old).held (K.tells out.new).held
         (refusal_outcome refusal).text) }
-    ensures silent { is_told refusal ≡ false → K.held out.new ≡ K.held out.old }
+    ensures silent { is_told refusal ≡ false → (K.tells out.new).held ≡ (K.tells out.old).held }
     ensures read_fail { result ≡ Err Fault.ReadFail → refusal ≡ Refusal.Unread }
-    ensures write_fail { result ≡ Err Fault.WriteFail → Rose (K.faults out.old) (K.faults out.new) }
-    ensures writes { K.faults out.old ≤ K.faults out.new }
-    ensures stays_open { K.is_closed out.new ≡ false }
-    ensures mark { K.mark out.new ≡ K.mark out.old }
+    ensures write_fail { result ≡ Err Fault.WriteFail → Rose (K.tells out.old).faults (K.tells out.new).faults }
+    ensures stays { StaysOpen (K.tells out.old) (K.tells out.new) }
 {
     let status = match &refusal {
         Refusal::Unread => return Err(Fault::ReadFail),

@@ -24,13 +24,7 @@ impl<W: Write + Drop> StdSink<W> {
 }
 
 impl<W: Write + Drop> Sink for StdSink<W> {
-    ghost held = { λ _. None };
-
-    ghost faults = { λ s. s.faults };
-
-    ghost is_closed = { λ s. s.is_closed };
-
-    ghost mark = { λ _. record { first = 0; second = 0 } };
+    ghost tells = { λ s. record { mark = record { first = 0; second = 0 }; faults = s.faults; held = None; is_closed = s.is_closed } };
 
     fn push(&mut self, bytes: &[u8]) -> Result<(), Failed> {
         if write_whole(&mut self.to, bytes) {

@@ -1,7 +1,7 @@
 ghost use Rattle.std.specs.Prelude.{◌≡◌, ◌≢◌, ◌≤◌, ◌↔◌, List, ℕ, length, map, Some, None, Ok, Err, string_bytes, IfOk, IfErr, OnOk, true};
 ghost use Rattle.rd_base.specs.History.{is_well_formed};
 ghost use Rattle.rd_base.specs.Limits.{AreLimits};
-ghost use Rattle.rd_base.specs.Outside.{NamedFile, Rose, file_of};
+ghost use Rattle.rd_base.specs.Outside.{NamedFile, Rose, StaysRead, file_of};
 ghost use Rattle.rddr.specs.Forms.{form_of};
 ghost use Rattle.rddr.specs.Outcome.{outcome, form_outcome, settings_of_file, script_of_file, script_outcome, replay_under};
 ghost use Rattle.rddr.specs.Works.{form_in, HasRange, IsReady, work_outcome, refusal_outcome, is_told};
@@ -41,15 +41,14 @@ pub enum Work {
 /// What the words behind the program's name ask for, with all files read that they name, in the order of the words.
 pub fn work_of<F: Files>(alloc: Global, words: &[String], files: &mut F) -> Result<Work, Refusal>
     ensures ready { IfOk result IsReady }
-    ensures work { IfOk result (λ work. (all : List NamedFile) → F.files files.old ≡ Some all
+    ensures work { IfOk result (λ work. (all : List NamedFile) → (F.tells files.old).files ≡ Some all
         → outcome (map string_bytes words.now) all ≡ work_outcome work) }
     ensures refused { IfErr result (λ refusal. is_told refusal ≡ true → (all : List NamedFile)
-        → F.files files.old ≡ Some all → outcome (map string_bytes words.now) all
+        → (F.tells files.old).files ≡ Some all → outcome (map string_bytes words.now) all
         ≡ refusal_outcome refusal) }
     ensures words { (result ≡ Err Refusal.Words) ↔ (form_of (map string_bytes words.now) ≡ None) }
-    ensures failed { result ≡ Err Refusal.Unread → Rose (F.faults files.old) (F.faults files.new) }
-    ensures files { F.files files.new ≡ F.files files.old }
-    ensures faults { F.faults files.old ≤ F.faults files.new }
+    ensures failed { result ≡ Err Refusal.Unread → Rose (F.tells files.old).faults (F.tells files.new).faults }
+    ensures reads { StaysRead (F.tells files.old) (F.tells files.new) }
 {
     match command_of(words) {
         Some(command) => work_for(alloc, command, files),
@@ -60,15 +59,14 @@ pub fn work_of<F: Files>(alloc: Global, words: &[String], files: &mut F) -> Resu
 fn work_for<F: Files>(alloc: Global, command: Command, files: &mut F) -> Result<Work, Refusal>
     requires { HasRange command }
     ensures ready { IfOk result IsReady }
-    ensures work { IfOk result (λ work. (all : List NamedFile) → F.files files.old ≡ Some all
+    ensures work { IfOk result (λ work. (all : List NamedFile) → (F.tells files.old).files ≡ Some all
         → form_outcome all (Some (form_in command.entry)) ≡ work_outcome work) }
     ensures refused { IfErr result (λ refusal. is_told refusal ≡ true → (all : List NamedFile)
-        → F.files files.old ≡ Some all → form_outcome all (Some (form_in command.entry))
+        → (F.tells files.old).files ≡ Some all → form_outcome all (Some (form_in command.entry))
         ≡ refusal_outcome refusal) }
     ensures words { result ≢ Err Refusal.Words }
-    ensures failed { result ≡ Err Refusal.Unread → Rose (F.faults files.old) (F.faults files.new) }
-    ensures files { F.files files.new ≡ F.files files.old }
-    ensures faults { F.faults files.old ≤ F.faults files.new }
+    ensures failed { result ≡ Err Refusal.Unread → Rose (F.tells files.old).faults (F.tells files.new).faults }
+    ensures reads { StaysRead (F.tells files.old) (F.tells files.new) }
 {
     match command {
         Command::Check { settings } => {
@@ -96,15 +94,14 @@ fn work_for<F: Files>(alloc: Global, command: Command, files: &mut F) -> Result<
 /// The settings that the file of this name has.
 fn settings_file<F: Files>(alloc: Global, name: &str, files: &mut F) -> Result<Settings, Refusal>
     ensures limits { IfOk result (λ settings. AreLimits settings.limits) }
-    ensures settings { IfOk result (λ settings. (all : List NamedFile) → F.files files.old
+    ensures settings { IfOk result (λ settings. (all : List NamedFile) → (F.tells files.old).files
         ≡ Some all → settings_of_file (file_of name.now all) ≡ Ok settings) }
     ensures refused { IfErr result (λ refusal. is_told refusal ≡ true → (all : List NamedFile)
-        → F.files files.old ≡ Some all → settings_of_file (file_of name.now all)
+        → (F.tells files.old).files ≡ Some all → settings_of_file (file_of name.now all)
         ≡ Err (refusal_outcome refusal)) }
     ensures words { result ≢ Err Refusal.Words }
-    ensures failed { result ≡ Err Refusal.Unread → Rose (F.faults files.old) (F.faults files.new) }
-    ensures files { F.files files.new ≡ F.files files.old }
-    ensures faults { F.faults files.old ≤ F.faults files.new }
+    ensures failed { result ≡ Err Refusal.Unread → Rose (F.tells files.old).faults (F.tells files.new).faults }
+    ensures reads { StaysRead (F.tells files.old) (F.tells files.new) }
 {
     match files.read_all(alloc, name, MOST_SETTINGS_BYTES) {
         Ok(text) => settings_of(alloc, text.as_slice()),
@@ -136,15 +133,14 @@ fn replay_file<F: Files>(
 ) -> Result<Work, Refusal>
     requires { AreLimits settings.limits }
     ensures ready { IfOk result IsReady }
-    ensures work { IfOk result (λ work. (all : List NamedFile) → F.files files.old ≡ Some all
+    ensures work { IfOk result (λ work. (all : List NamedFile) → (F.tells files.old).files ≡ Some all
         → replay_under settings (file_of name.now all) ≡ work_outcome work) }
     ensures refused { IfErr result (λ refusal. is_told refusal ≡ true → (all : List NamedFile)
-        → F.files files.old ≡ Some all → replay_under settings (file_of name.now all)
+        → (F.tells files.old).files ≡ Some all → replay_under settings (file_of name.now all)
         ≡ refusal_outcome refusal) }
     ensures words { result ≢ Err Refusal.Words }
-    ensures failed { result ≡ Err Refusal.Unread → Rose (F.faults files.old) (F.faults files.new) }
-    ensures files { F.files files.new ≡ F.files files.old }
-    ensures faults { F.faults files.old ≤ F.faults files.new }
+    ensures failed { result ≡ Err Refusal.Unread → Rose (F.tells files.old).faults (F.tells files.new).faults }
+    ensures reads { StaysRead (F.tells files.old) (F.tells files.new) }
 {
     match files.read_all(alloc, name, MOST_SCRIPT_BYTES) {
         Ok(text) => {

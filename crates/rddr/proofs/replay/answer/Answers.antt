@@ -8,9 +8,9 @@ use Rattle.rddr.proofs.replay.answer.Goals as goal
 
 pub returns-in-Err-clause-prefix : goal.returns-in-Err-clause-prefix
 returns-in-Err-clause-prefix g c =
-    holds_wanted c.refuse.result (g.K.Sink.held c.args.out.now) (g.K.Sink.held c.refuse.new.out) (refusal_outcome c.in-Err.refusal).text
+    holds_wanted c.refuse.result (g.K.Sink.tells c.args.out.now).held (g.K.Sink.tells c.refuse.new.out).held (refusal_outcome c.in-Err.refusal).text
     (λ (all : List NamedFile). (outcome (map string_bytes c.args.words.now) all).text)
-    (λ (all : List NamedFile). g.F.Files.files c.args.files.now ≡ Some all)
+    (λ (all : List NamedFile). (g.F.Files.tells c.args.files.now).files ≡ Some all)
     (is_told c.in-Err.refusal)
     (λ told all tells. ap (λ (o : Outcome). o.text) (c.in-Err.ensures.refused told all tells))
     c.refuse.ensures.silent

@@ -15,7 +15,7 @@ unfolding summary_outcome
 returns-in_err-push-clause-prefix g c =
     let counted : c.in_ok-summary.summary ≡ summary (line_rules c.args.limits Incoming) (generated c.args.limits.copies c.args.number).entries = c.in_ok-summary.ensures ∙ ap (λ (s : ScriptState). summary (line_rules c.args.limits Incoming) s.entries) c.in_ok-script.ensures.script in
     let text = c.as_bytes.ensures.value ∙ c.in_ok-text.ensures ∙ ap summary_text counted in
-    at_error c.from_residual-in_err-push.result (rw text at c.in_err-push.ensures.err)
+    at_error c.from_residual-in_err-push.result (rw text at c.in_err-push.ensures.part)
 
 pub returns-clause-status : goal.returns-clause-status
 unfolding summary_outcome summary
@@ -28,4 +28,4 @@ unfolding summary_outcome
 returns-clause-text g c =
     let counted : c.in_ok-summary.summary ≡ summary (line_rules c.args.limits Incoming) (generated c.args.limits.copies c.args.number).entries = c.in_ok-summary.ensures ∙ ap (λ (s : ScriptState). summary (line_rules c.args.limits Incoming) s.entries) c.in_ok-script.ensures.script in
     let text = c.as_bytes.ensures.value ∙ c.in_ok-text.ensures ∙ ap summary_text counted in
-    c.in_ok-push.ensures.ok ∙ ap (held_with (g.K.Sink.held c.args.out.now)) text
+    c.in_ok-push.ensures.all ∙ ap (held_with (g.K.Sink.tells c.args.out.now).held) text

@@ -7,4 +7,4 @@ use Rattle.rddr.proofs.replay.replay_main.Goals as goal
 pub returns-in-Ok-clause-prefix : goal.returns-in-Ok-clause-prefix
 returns-in-Ok-clause-prefix g c = λ all tells.
     let text = (outcome (map string_bytes c.args.words.now) all).text in
-    holds_front (g.K.Sink.held c.args.out.now) (g.K.Sink.held c.answer.new.out) text [] text (append-nil text) (c.in-Ok.ensures.text all tells)
+    holds_front (g.K.Sink.tells c.args.out.now).held (g.K.Sink.tells c.answer.new.out).held text [] text (append-nil text) (c.in-Ok.ensures.text all tells)

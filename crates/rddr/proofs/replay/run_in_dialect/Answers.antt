@@ -15,12 +15,12 @@ returns-in-Line-clause-ending g c =
 pub returns-in-Line-clause-text : goal.returns-in-Line-clause-text
 returns-in-Line-clause-text g c =
     let same = named_line c.args.dialect c.args.names.now c.args.limits c.args.script.now.side c.side-side.result _ c.in-Line.is (refl) c.side-side.ensures in
-    subst (λ (r : Rules). OnOk c.run_script.result (g.K.Sink.held c.run_script.new.out ≡ held_with (g.K.Sink.held c.args.out.now) (transcript_text (transcript r c.args.script.now.entries)))) same c.run_script.ensures.ok
+    subst (λ (r : Rules). OnOk c.run_script.result ((g.K.Sink.tells c.run_script.new.out).held ≡ held_with (g.K.Sink.tells c.args.out.now).held (transcript_text (transcript r c.args.script.now.entries)))) same c.run_script.ensures.ok
 
 pub returns-in-Line-clause-prefix : goal.returns-in-Line-clause-prefix
 returns-in-Line-clause-prefix g c =
     let same = named_line c.args.dialect c.args.names.now c.args.limits c.args.script.now.side c.side-side.result _ c.in-Line.is (refl) c.side-side.ensures in
-    subst (λ (r : Rules). OnErr c.run_script.result (HoldsPrefix (g.K.Sink.held c.args.out.now) (g.K.Sink.held c.run_script.new.out) (transcript_text (transcript r c.args.script.now.entries)))) same c.run_script.ensures.err
+    subst (λ (r : Rules). OnErr c.run_script.result (HoldsPrefix (g.K.Sink.tells c.args.out.now).held (g.K.Sink.tells c.run_script.new.out).held (transcript_text (transcript r c.args.script.now.entries)))) same c.run_script.ensures.err
 
 pub returns-in_ok-http-in-Http-clause-ending : goal.returns-in_ok-http-in-Http-clause-ending
 returns-in_ok-http-in-Http-clause-ending g c =
@@ -30,12 +30,12 @@ returns-in_ok-http-in-Http-clause-ending g c =
 pub returns-in_ok-http-in-Http-clause-text : goal.returns-in_ok-http-in-Http-clause-text
 returns-in_ok-http-in-Http-clause-text g c =
     let same = named_http c.args.dialect c.args.names.now c.args.limits c.args.script.now.side c.side-side.result _ c.in-Http.is (ap (λ (h : HttpView). http_on h.side h.rules) c.in_ok-http-in-Http.ensures) c.side-side.ensures in
-    subst (λ (r : Rules). OnOk c.run_script-in-Http.result (g.K.Sink.held c.run_script-in-Http.new.out ≡ held_with (g.K.Sink.held c.args.out.now) (transcript_text (transcript r c.args.script.now.entries)))) same c.run_script-in-Http.ensures.ok
+    subst (λ (r : Rules). OnOk c.run_script-in-Http.result ((g.K.Sink.tells c.run_script-in-Http.new.out).held ≡ held_with (g.K.Sink.tells c.args.out.now).held (transcript_text (transcript r c.args.script.now.entries)))) same c.run_script-in-Http.ensures.ok
 
 pub returns-in_ok-http-in-Http-clause-prefix : goal.returns-in_ok-http-in-Http-clause-prefix
 returns-in_ok-http-in-Http-clause-prefix g c =
     let same = named_http c.args.dialect c.args.names.now c.args.limits c.args.script.now.side c.side-side.result _ c.in-Http.is (ap (λ (h : HttpView). http_on h.side h.rules) c.in_ok-http-in-Http.ensures) c.side-side.ensures in
-    subst (λ (r : Rules). OnErr c.run_script-in-Http.result (HoldsPrefix (g.K.Sink.held c.args.out.now) (g.K.Sink.held c.run_script-in-Http.new.out) (transcript_text (transcript r c.args.script.now.entries)))) same c.run_script-in-Http.ensures.err
+    subst (λ (r : Rules). OnErr c.run_script-in-Http.result (HoldsPrefix (g.K.Sink.tells c.args.out.now).held (g.K.Sink.tells c.run_script-in-Http.new.out).held (transcript_text (transcript r c.args.script.now.entries)))) same c.run_script-in-Http.ensures.err
 
 pub returns-in_ok-pg-in-Pg-clause-ending : goal.returns-in_ok-pg-in-Pg-clause-ending
 returns-in_ok-pg-in-Pg-clause-ending g c =
@@ -45,9 +45,9 @@ returns-in_ok-pg-in-Pg-clause-ending g c =
 pub returns-in_ok-pg-in-Pg-clause-text : goal.returns-in_ok-pg-in-Pg-clause-text
 returns-in_ok-pg-in-Pg-clause-text g c =
     let same = named_pg c.args.dialect c.args.names.now c.args.limits c.args.script.now.side c.side-side.result _ c.in-Pg.is (c.in_ok-pg-in-Pg.ensures) c.side-side.ensures in
-    subst (λ (r : Rules). OnOk c.run_script-in-Pg.result (g.K.Sink.held c.run_script-in-Pg.new.out ≡ held_with (g.K.Sink.held c.args.out.now) (transcript_text (transcript r c.args.script.now.entries)))) same c.run_script-in-Pg.ensures.ok
+    subst (λ (r : Rules). OnOk c.run_script-in-Pg.result ((g.K.Sink.tells c.run_script-in-Pg.new.out).held ≡ held_with (g.K.Sink.tells c.args.out.now).held (transcript_text (transcript r c.args.script.now.entries)))) same c.run_script-in-Pg.ensures.ok
 
 pub returns-in_ok-pg-in-Pg-clause-prefix : goal.returns-in_ok-pg-in-Pg-clause-prefix
 returns-in_ok-pg-in-Pg-clause-prefix g c =
     let same = named_pg c.args.dialect c.args.names.now c.args.limits c.args.script.now.side c.side-side.result _ c.in-Pg.is (c.in_ok-pg-in-Pg.ensures) c.side-side.ensures in
-    subst (λ (r : Rules). OnErr c.run_script-in-Pg.result (HoldsPrefix (g.K.Sink.held c.args.out.now) (g.K.Sink.held c.run_script-in-Pg.new.out) (transcript_text (transcript r c.args.script.now.entries)))) same c.run_script-in-Pg.ensures.err
+    subst (λ (r : Rules). OnErr c.run_script-in-Pg.result (HoldsPrefix (g.K.Sink.tells c.args.out.now).held (g.K.Sink.tells c.run_script-in-Pg.new.out).held (transcript_text (transcript r c.args.script.now.entries)))) same c.run_script-in-Pg.ensures.err
