@@ -1,4 +1,4 @@
-ghost use Rattle.std.specs.Prelude.{◌≡◌, ◌≤◌, ◌-◌, ◌^◌, All, IfOk};
+ghost use Rattle.std.specs.Prelude.{◌≡◌, ◌≤◌, ◌-◌, ◌^◌, All, IfOk, OnOk};
 ghost use Rattle.rd_base.specs.MemSource.{IsPiece};
 
 use crate::operator_once;
@@ -37,18 +37,26 @@ fn noted(id: u64) -> SessionNote
 
 /// The text, cut into pieces of this size.
 fn pieces_of(alloc: Global, text: &[u8], size: usize) -> Result<Vec<Bytes>, NoMemory>
-    requires most { size ≤ 16384 }
-    requires least { 1 ≤ size }
+    requires { 1 ≤ size }
     ensures { IfOk result (λ v. All IsPiece v.items) }
 {
     let mut pieces = Vec::new(alloc);
     'chunks: for chunk in text.chunks(size) {
-        let is_piece = 1 <= chunk.len() && chunk.len() <= BIG_PIECE;
-        if is_piece {
-            pieces.push(Bytes::from_slice(alloc, chunk)?)?;
-        }
+        push_piece(alloc, &mut pieces, chunk)?;
     }
     Ok(pieces)
+}
+
+fn push_piece(alloc: Global, pieces: &mut Vec<Bytes>, chunk: &[u8]) -> Result<(), NoMemory>
+    requires { All IsPiece pieces.old.items }
+    ensures { OnOk result (All IsPiece pieces.new.items) }
+{
+    if chunk.len() < 1 || chunk.len() > BIG_PIECE {
+        return Ok(());
+    }
+    let piece = Bytes::from_slice(alloc, chunk)?;
+    pieces.push(piece)?;
+    Ok(())
 }
 
 /// What is written for a request, with these reads and pushes failing.
@@ -299,23 +307,27 @@ Content-Length: 13\r\nConnection: close\r\n\r\n{\"error\":400}";
 const UNAVAILABLE: &[u8] = b"HTTP/1.1 503 Service Unavailable\r\nContent-Type: application/json\r\n\
 Content-Length: 13\r\nConnection: close\r\n\r\n{\"error\":503}";
 
+/// A target without an end, of 65,536 bytes with its method.
+fn long_request(alloc: Global) -> Result<Vec<u8>, NoMemory> {
+    let mut long = Vec::from_slice(alloc, b"GET /")?;
+    for _ in 5..65_536u32 {
+        long.push(b'a')?;
+    }
+    Ok(long)
+}
+
 /// A head that is too long, bytes that are no head, one that ends early, and a keeper that fails.
 #[test]
 fn refuses_other_requests(rt: HostRuntime) {
     let alloc = rt.alloc();
-    let (Ok(board), Ok(failing), Ok(mut long)) = (
+    let (Ok(board), Ok(failing), Ok(long)) = (
         Board::make(alloc, 0),
         Vec::from_slice(alloc, &[0]),
-        Vec::from_elem(alloc, b'a', 65_536),
+        long_request(alloc),
     ) else {
         panic!(rt; "no memory");
     };
     let mut keeper = MemKeeper::new(alloc, failing);
-    long[0] = b'G';
-    long[1] = b'E';
-    long[2] = b'T';
-    long[3] = b' ';
-    long[4] = b'/';
     assert!(rt; gets(alloc, &board, &mut keeper, long.as_slice(), 431, TOO_LARGE));
     assert!(rt;
         gets(
