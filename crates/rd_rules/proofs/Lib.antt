@@ -9,3 +9,4 @@ pub mod GivenSteps
 pub mod Moments
 pub mod Masks
 pub mod Acted
+pub mod Stopping
