@@ -85,7 +85,7 @@ bigs_quiet r now =
     let other = is_big r.grammar r.limits.unit_max (not (is_some now.out)) due in
     let opens = open_asking r.side now.left.asking now.out in
     links_quiet r.side (least_open ending.TooBig one now.left.answering) (least_open ending.TooBig other opens)
-        (least_quiet ending.TooBig (λ l. refl) one now.left.answering) (least_quiet ending.TooBig (λ l. refl) other opens)
+    (least_quiet ending.TooBig (λ l. refl) one now.left.answering) (least_quiet ending.TooBig (λ l. refl) other opens)
 
 scans_quiet : (r : Rules) (now : Now) → Quiet (scan_trouble r now)
 scans_quiet r now = or_quiet (malformed r.grammar now) (or_else (too_big r now) (unsupported r.grammar now))
@@ -97,31 +97,31 @@ broken_quiet side g due true asking answering = least_quiet ending.Broken (λ l.
 broken_quiet side g due false asking answering =
     let cut = least_open ending.Broken (is_cut g due) asking in
     links_quiet side (least_open ending.Broken is_left answering) (if some_open asking then cut else None)
-        (least_quiet ending.Broken (λ l. refl) is_left answering)
-        (if_quiet (some_open asking) cut None (least_quiet ending.Broken (λ l. refl) (is_cut g due) asking) refl)
+    (least_quiet ending.Broken (λ l. refl) is_left answering)
+    (if_quiet (some_open asking) cut None (least_quiet ending.Broken (λ l. refl) (is_cut g due) asking) refl)
 
 ends_quiet : (r : Rules) (now : Now) → Quiet (end_trouble r now)
 ends_quiet r now =
     let over = least_open ending.Closed is_over now.left.answering in
     or_quiet (broken r now) (or_else (closed now) (or_else (all_done now) (retired r now)))
-        (broken_quiet r.side r.grammar (due_of r.grammar now) (is_some now.out) now.left.asking now.left.answering)
-        (or_quiet (closed now) (or_else (all_done now) (retired r now))
-            (if_quiet (is_some now.out) None over refl (least_quiet ending.Closed (λ l. refl) is_over now.left.answering))
-            (or_quiet (all_done now) (retired r now)
-                (if_quiet ((not (is_some now.out) && list_all is_over now.left.asking) || now.bye) (Some ending.Done) None refl refl)
-                (if_quiet (now.count == r.limits.exchanges_max) (Some ending.Retired) None refl refl)))
+    (broken_quiet r.side r.grammar (due_of r.grammar now) (is_some now.out) now.left.asking now.left.answering)
+    (or_quiet (closed now) (or_else (all_done now) (retired r now))
+    (if_quiet (is_some now.out) None over refl (least_quiet ending.Closed (λ l. refl) is_over now.left.answering))
+    (or_quiet (all_done now) (retired r now)
+    (if_quiet ((not (is_some now.out) && list_all is_over now.left.asking) || now.bye) (Some ending.Done) None refl refl)
+    (if_quiet (now.count == r.limits.exchanges_max) (Some ending.Retired) None refl refl)))
 
 standing_quiet : (r : Rules) (now : Now) → Quiet (trouble_of r now)
 standing_quiet r now = or_quiet (scan_trouble r now) (or_else (disagreed r now) (end_trouble r now)) (scans_quiet r now)
     (or_quiet (disagreed r now) (end_trouble r now)
-        (judge_quiet r.limits.mask (now.count + 1) (map (heard r.grammar (due_of r.grammar now)) (due_opens now)))
-        (ends_quiet r now))
+    (judge_quiet r.limits.mask (now.count + 1) (map (heard r.grammar (due_of r.grammar now)) (due_opens now)))
+    (ends_quiet r now))
 
 piece_quiet : (g : Grammar) (now : Now) (w : What) → Quiet (unsolicited_by g now w)
-piece_quiet g now (what.Piece l bytes) = 
+piece_quiet g now (what.Piece l bytes) =
     let past = λ (o : Open). (o.link == l.0) && goes_past g now.out (o.bytes ++ bytes) in
     if_quiet g.early_replies None (least_open ending.Unsolicited past now.left.answering) refl
-        (least_quiet ending.Unsolicited (λ l. refl) past now.left.answering)
+    (least_quiet ending.Unsolicited (λ l. refl) past now.left.answering)
 piece_quiet g now (what.End l) = refl
 piece_quiet g now (what.ReadFail l) = refl
 piece_quiet g now (what.WriteFail l) = refl
@@ -143,14 +143,14 @@ trouble_quiet r h none =
     let full = full_log_at (length h) in
     let is_late = is_timer_entry (last_of_list h) && nat_le (due_moment r h) (moment h) in
     or_quiet (first_trouble r h) (or_else (unsolicited r h) (or_else (trouble_of r now) full))
-        (or_quiet (link_fault r.limits.copies h) (or_else (stopped h) (late r h))
-            (fault_quiet (find (λ l. list_any (λ e. fails l e.what) h) (below (r.limits.copies + 1))))
-            (or_quiet (stopped h) (late r h) (ap (λ b. says_stopped (stopped_at b)) none)
-                (if_quiet is_late (Some (ending.Late (wait r h).which)) None refl refl)))
-        (or_quiet (unsolicited r h) (or_else (trouble_of r now) full)
-            (unsolicited_quiet r (last_of_list h) (reading r (without_last h)))
-            (or_quiet (trouble_of r now) full (standing_quiet r now)
-                (if_quiet (length h == 1048576) (Some ending.FullLog) None refl refl)))
+    (or_quiet (link_fault r.limits.copies h) (or_else (stopped h) (late r h))
+    (fault_quiet (find (λ l. list_any (λ e. fails l e.what) h) (below (r.limits.copies + 1))))
+    (or_quiet (stopped h) (late r h) (ap (λ b. says_stopped (stopped_at b)) none)
+    (if_quiet is_late (Some (ending.Late (wait r h).which)) None refl refl)))
+    (or_quiet (unsolicited r h) (or_else (trouble_of r now) full)
+    (unsolicited_quiet r (last_of_list h) (reading r (without_last h)))
+    (or_quiet (trouble_of r now) full (standing_quiet r now)
+    (if_quiet (length h == 1048576) (Some ending.FullLog) None refl refl)))
 
 or_left : (a b : Bool) → a ≡ true → (a || b) ≡ true
 or_left true b e = refl
