@@ -1,10 +1,12 @@
 ghost use Rattle.std.specs.Prelude.{◌≡◌, ◌+◌, ◌≤◌, [], ℕ, Some, map, length, IfOk, vec_len, vec_capacity};
 ghost use Rattle.rd_base.specs.Limits.{AreLimits};
 ghost use Rattle.rd_reading.specs.Seen.{rules_of};
+ghost use Rattle.rd_rules.specs.Exchange.{Rules};
+ghost use Rattle.rd_gate.specs.declared.gate.View.{View};
 ghost use Rattle.rd_core.specs.Standing.{IsAt};
 ghost use Rattle.rd_gate.specs.Gate.{fresh, owner};
 ghost use Rattle.rd_turn.specs.Sinks.{AreOpen};
-ghost use Rattle.rd_turn.specs.Turns.{outside, rules_by};
+ghost use Rattle.rd_turn.specs.Turns.{Outside, outside, rules_by};
 ghost use Rattle.rd_run.specs.Links.{LinksDone};
 ghost use Rattle.rd_run.specs.Whole.{RunsBy, may_stay, taken_in, rules_on};
 
@@ -200,8 +202,7 @@ fn run_session<
     ensures sources { LinksDone (may_stay result) (taken_in result) 0 (map S.tells sources.items) (map S.tells result.sources.items) }
 {
     let Ok(ready) = make_ready(rt, alloc, dialect, setup) else {
-        close_all(sinks);
-        return unmade(alloc, sources);
+        return run_unmade(alloc, sources, sinks);
     };
     let Ready {
         mut session,
@@ -275,6 +276,20 @@ fn run_of<S: Source, R: Wait + Copy>(
         sources,
         left_over: left,
     }
+}
+
+/// The run of a session for which there was no memory to begin with: no source is asked, and each sink is closed.
+pub fn run_unmade<S: Source, K: Sink, R: Wait + Copy>(
+    alloc: Global,
+    sources: Vec<S>,
+    sinks: &mut Vec<K>,
+) -> Run<S, R>
+    ensures run { (r : Rules) (asks : View → Outside) (refusals : ℕ) → RunsBy r asks asks refusals refusals
+        result (map K.tells sinks.old.items) (map K.tells sinks.new.items) }
+    ensures sources { LinksDone (may_stay result) (taken_in result) 0 (map S.tells sources.items) (map S.tells result.sources.items) }
+{
+    close_all(sinks);
+    unmade(alloc, sources)
 }
 
 /// A session for which there was no memory: no source was asked.

@@ -15,12 +15,10 @@ use Rattle.rd_run.proofs.Links.{fresh_are, fresh_at, fresh_front, fresh_length, 
 use Rattle.rd_run.proofs.Wholes.{was_unstarted, ran_through, links_in, none_is}
 use Rattle.rd_run.proofs.run.run_session.Goals as goal
 
-pub returns-in_default-clause-sources : goal.returns-in_default-clause-sources
-returns-in_default-clause-sources g c =
-    let tells = g.S.Source.tells in
-    let run = c.unmade.result in
-    subst (λ ys. LinksDone (may_stay run) (taken_in run) 0 (map tells c.args.sources.items) ys) (sym (ap (λ v. map tells v.items) c.unmade.ensures.sources))
-    (links_stay (may_stay run) tells (taken_in run) 0 c.args.sources.items (inr (ap (λ (l : LogView). l.pass) c.unmade.ensures.log)) (λ j lt. none_is run c.unmade.ensures.log (0 + j)))
+pub returns-in_default-clause-run : goal.returns-in_default-clause-run
+returns-in_default-clause-run g c =
+    let asks : View → Outside = λ v. outside v (g.C.Clock.tells c.args.clock.now) (g.Q.Stopper.tells c.args.stop.now) (g.B.TokenBook.tells c.args.book.now) in
+    c.run_unmade.ensures.run (rules_of (g.D.Dialect.grammar c.args.dialect) c.args.setup) asks (g.P.Spawner.tells c.args.spawner.now).refusals
 
 pub start_all-requires-clause-passes : goal.start_all-requires-clause-passes
 start_all-requires-clause-passes g c =
