@@ -18,7 +18,7 @@ pub struct Ended<S, K, L> {
 
 /// Who runs sessions of one setup, one at a time, over links of these types. It counts its yeses to those who ask
 /// whether to stop and the refused starts of readers, each up to 2^64-1, and tells its clock's span.
-pub trait Runner<S: Source, K: Sink, L: Left>: Drop + Send + 'static {
+pub trait Runner<S: Source + Send + 'static, K: Sink, L: Left>: Drop + Send + 'static {
     ghost tells: { Self → RunnerTold };
 
     /// What a session of this setup and side comes to, over the links of a visit.

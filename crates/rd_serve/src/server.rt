@@ -130,7 +130,7 @@ fn join_at<L: Left, E: Doors<L>, Q: Runner<E::Give, E::Take, L>, R: Threads + Wa
 }
 
 /// The place of a session whose flag is set.
-fn ended_place<S: Source, K: Sink, L: Left, Q: Runner<S, K, L>>(
+fn ended_place<S: Source + Send + 'static, K: Sink, L: Left, Q: Runner<S, K, L>>(
     sessions: &[Session<S, K, L, Q>],
 ) -> Option<usize>
     ensures { IfSome result (λ place. place < length sessions.now) }

@@ -27,7 +27,7 @@ pub struct Handed<S, K, Q> {
     pub ends: Snapshot<Ends<S, K>>,
 }
 
-impl<S: Source, K: Sink, L: Left, Q: Runner<S, K, L>> Promise<Served<S, K, L, Q>>
+impl<S: Source + Send + 'static, K: Sink, L: Left, Q: Runner<S, K, L>> Promise<Served<S, K, L, Q>>
     for Handed<S, K, Q> {
     ghost kept_by = { λ p r. Keeps S.tells K.tells L.tells Q.tells Q.comes_to
         (Q.tells p.runner.value).setup p.side p.ends.value r };
@@ -35,7 +35,7 @@ impl<S: Source, K: Sink, L: Left, Q: Runner<S, K, L>> Promise<Served<S, K, L, Q>
 
 /// A session on a thread of its own, which sets the flag as its last act.
 #[derive(Drop)]
-pub struct Session<S: Source, K: Sink, L: Left, Q: Runner<S, K, L>> {
+pub struct Session<S: Source + Send + 'static, K: Sink, L: Left, Q: Runner<S, K, L>> {
     pub number: u64,
     pub side: Side,
     pub ends: Snapshot<Ends<S, K>>,
@@ -44,7 +44,7 @@ pub struct Session<S: Source, K: Sink, L: Left, Q: Runner<S, K, L>> {
 }
 
 /// Runs the session of a visit to its end, and sets the flag as the last act.
-fn run_and_tell<S: Source, K: Sink, L: Left, Q: Runner<S, K, L>>(
+fn run_and_tell<S: Source + Send + 'static, K: Sink, L: Left, Q: Runner<S, K, L>>(
     alloc: Global,
     side: Side,
     ends: Ends<S, K>,

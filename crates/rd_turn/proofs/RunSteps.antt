@@ -161,6 +161,7 @@ wrote_off r h at did told w olds mids news p q adds = by (at_most_one at did tol
           part = subst (λ bytes. HoldsPrefix (held_with (sink_at olds w.0).held (sent r w.0 h)) (sink_at news w.0).held (drop (length (sent r w.0 h)) bytes)) (sym (same w.0))
               (subst (λ o. HoldsPrefix o (sink_at news w.0).held (sent_past r h (h ++ e ∷ []) w.0)) first.held step.here.held);
           fault = rise (sink_at olds w.0).faults (sink_at mids w.0).faults (sink_at news w.0).faults first.stays.faults step.here.rose;
+          mark = step.here.stays.mark ∙ first.stays.mark;
           none = λ l more_than lt. subst (Wrote (sent r l h) (sink_at olds l)) (sym (step.behind l more_than)) (p.wrote l lt);
         }
 

@@ -26,6 +26,7 @@ pub record BrokeOff (r : Rules) (h : History) (w : Link) (olds news : List SinkT
   pub all : (l : ℕ) → l < w.0 → Wrote (sent r l h) (sink_at olds l) (sink_at news l)
   pub part : HoldsPrefix (held_with (sink_at olds w.0).held (sent r w.0 before)) (sink_at news w.0).held (sent_past r before h w.0)
   pub fault : Rose (sink_at olds w.0).faults (sink_at news w.0).faults
+  pub mark : (sink_at news w.0).mark ≡ (sink_at olds w.0).mark
   pub none : (l : ℕ) → w.0 < l → l < length olds → Wrote (sent r l before) (sink_at olds l) (sink_at news l)
 
 -- each sink was written what its link has been sent by h, up to a write that failed
