@@ -2,17 +2,20 @@
 """Tries the keeper of session notes on real files, beside the `sqlite3` command.
 
     tools/try_keeper.py            notes one way and the other, kills in the midst of puts, locks, files of another make
-    tools/try_keeper.py measure    puts a second and what each costs, a page of 100 notes, the memory of a full board
+    tools/try_keeper.py measure    puts a second and what each costs, a page of 100 notes, what a held file costs,
+                                   the memory of a full board
 
 A small program over the keeper is written beside copies of the crates that it needs, in a folder of its own that is
 removed at the end. `rt try` compiles it without a proof, in a minute or two: what is proved of the keeper is proved in
-its crate. A copy of what it runs is then run again and again. With `--keep FOLDER` that folder is used and stays. Each
+its crate. A copy of what it runs is then run again and again. It checks each address as it runs, so that times and
+memory are upper bounds: a program that is built takes less. With `--keep FOLDER` that folder is used and stays. Each
 thing that was tried prints a line; the first that isn't as it should be ends the run with status 1.
 """
 
 import argparse
 import os
 import random
+import resource
 import shutil
 import signal
 import subprocess
@@ -57,7 +60,10 @@ fn main(rt: HostRuntime) -> io::Result<()> {
     match words[1].as_str() {
         "puts" if words.len() == 6 => puts(&rt, words[2].as_str(), number, words[5].as_str()),
         "list" if words.len() == 3 => list(&rt, words[2].as_str()),
-        "measure" if words.len() == 3 => measure(&rt, words[2].as_str()),
+        "put" if words.len() == 3 => measure_puts(&rt, words[2].as_str()),
+        "page" if words.len() == 3 => measure_pages(&rt, words[2].as_str()),
+        "held" if words.len() == 3 => measure_held(&rt, words[2].as_str()),
+        "boards" if words.len() == 3 => measure_boards(&rt),
         _ => println!(rt; "other words"),
     }
 }
@@ -129,48 +135,73 @@ fn list(rt: &HostRuntime, name: &str) -> io::Result<()> {
     Ok(())
 }
 
-fn measure(rt: &HostRuntime, name: &str) -> io::Result<()> {
+/// Puts 300 notes into a store.
+fn measure_puts(rt: &HostRuntime, name: &str) -> io::Result<()> {
     let Ok(mut keeper) = SqlKeeper::open(rt, rt.alloc(), name) else {
         return println!(rt; "no memory");
     };
-    for _ in 0..3 {
-        let from = match keeper.greatest() {
-            Ok(Some(id)) => id + 1,
-            _ => 1,
-        };
+    for id in 1..301u64 {
         let since = Instant::now(rt)?;
-        for id in from..from + 1000 {
-            let _put = keeper.put(&noted(id));
-        }
+        let _put = keeper.put(&noted(id));
         let micros = since.elapsed(rt)?.as_micros();
-        println!(rt; "puts 1000 {micros}")?;
+        println!(rt; "put {micros}")?;
     }
-    let since = Instant::now(rt)?;
-    for _ in 0..100 {
-        let _page = keeper.page(1000, 100);
-    }
-    let micros = since.elapsed(rt)?.as_micros();
-    println!(rt; "pages 100 {micros}")?;
     let faults = keeper.faults();
-    println!(rt; "faults {faults}")?;
-    measure_board(rt)
+    println!(rt; "faults {faults}")
 }
 
-/// The memory of this process before and behind a board of 10,000 notes, in pages.
-fn measure_board(rt: &HostRuntime) -> io::Result<()> {
-    let before = fs::read_to_string(rt, "/proc/self/statm")?;
-    let Ok(mut board) = Board::make(rt.alloc(), 0) else {
+/// Opens a store, and reads 20 pages of 100 notes.
+fn measure_pages(rt: &HostRuntime, name: &str) -> io::Result<()> {
+    let since = Instant::now(rt)?;
+    let Ok(mut keeper) = SqlKeeper::open(rt, rt.alloc(), name) else {
         return println!(rt; "no memory");
     };
-    for id in 1..10_001u64 {
-        board.began();
-        let _is_fresh = board.note(&noted(id));
+    let micros = since.elapsed(rt)?.as_micros();
+    println!(rt; "open {micros}")?;
+    for from in 1..21u64 {
+        let since = Instant::now(rt)?;
+        let notes = match keeper.page(from * 10, 100) {
+            Ok(notes) => notes.len(),
+            Err(_) => 0,
+        };
+        let micros = since.elapsed(rt)?.as_micros();
+        println!(rt; "page {micros} {notes}")?;
     }
-    let behind = fs::read_to_string(rt, "/proc/self/statm")?;
-    let sessions = board.sessions();
-    println!(rt; "board {sessions}")?;
-    print!(rt; "memory {before}")?;
-    print!(rt; "memory {behind}")
+    Ok(())
+}
+
+/// Opens a store that another process holds, and puts a note.
+fn measure_held(rt: &HostRuntime, name: &str) -> io::Result<()> {
+    let since = Instant::now(rt)?;
+    let Ok(mut keeper) = SqlKeeper::open(rt, rt.alloc(), name) else {
+        return println!(rt; "no memory");
+    };
+    let opened = since.elapsed(rt)?.as_micros();
+    let _put = keeper.put(&noted(1));
+    let both = since.elapsed(rt)?.as_micros();
+    let faults = keeper.faults();
+    println!(rt; "held {opened} {both} {faults}")
+}
+
+/// The memory of this process before and behind 20 boards of 10,000 notes.
+fn measure_boards(rt: &HostRuntime) -> io::Result<()> {
+    let before = fs::read_to_string(rt, "/proc/self/smaps_rollup")?;
+    let mut boards = Vec::new(rt.alloc());
+    for _ in 0..20 {
+        let Ok(mut board) = Board::make(rt.alloc(), 0) else {
+            return println!(rt; "no memory");
+        };
+        for id in 1..10_001u64 {
+            board.began();
+            let _is_fresh = board.note(&noted(id));
+        }
+        let (sessions, let_go) = (board.sessions(), board.unkept());
+        println!(rt; "board {sessions} {let_go}")?;
+        boards.push(board)?;
+    }
+    let behind = fs::read_to_string(rt, "/proc/self/smaps_rollup")?;
+    print!(rt; "{before}")?;
+    print!(rt; "{behind}")
 }
 """
 
@@ -242,8 +273,11 @@ class Tool:
         return [*self.loader, self.program, *words]
 
     def run(self, *words):
-        """What it prints, as lists of words."""
+        """What it prints, as lists of words. The processor time that it took is kept."""
+        before = resource.getrusage(resource.RUSAGE_CHILDREN)
         ran = subprocess.run(self.command(*words), capture_output=True, text=True, timeout=300)
+        after = resource.getrusage(resource.RUSAGE_CHILDREN)
+        self.processor = after.ru_utime + after.ru_stime - before.ru_utime - before.ru_stime
         if ran.returncode != 0:
             sys.exit(ran.stdout + ran.stderr)
         return [line.split() for line in ran.stdout.splitlines() if line.strip()]
@@ -338,19 +372,29 @@ def start(tool, name, first, count):
     return command, tool.begun(command)
 
 
+def hold(tool, name):
+    """A process of sqlite3 that holds a file to itself."""
+    holder = subprocess.Popen(["sqlite3", tool.path(name)], stdin=subprocess.PIPE, stdout=subprocess.PIPE, text=True)
+    holder.stdin.write("BEGIN EXCLUSIVE;\nSELECT 'held';\n")
+    holder.stdin.flush()
+    holder.stdout.readline()
+    return holder
+
+
+def release(holder):
+    holder.stdin.close()
+    holder.wait()
+
+
 def try_locks(tool):
     command, process = start(tool, "held.db", 1, 1_000_000)
     refusal = sql(tool.path("held.db"), "SELECT count(*) FROM sessions")
     os.kill(process, signal.SIGKILL)
     command.wait()
     check("locked" in refusal, "while the keeper has the file, sqlite3 says that it is locked")
-    holder = subprocess.Popen(["sqlite3", tool.path("held.db")], stdin=subprocess.PIPE, stdout=subprocess.PIPE, text=True)
-    holder.stdin.write("BEGIN EXCLUSIVE;\nSELECT 'held';\n")
-    holder.stdin.flush()
-    holder.stdout.readline()
+    holder = hold(tool, "held.db")
     answers, faults = tool.puts("held.db", 1, 3)
-    holder.stdin.close()
-    holder.wait()
+    release(holder)
     check(answers == ["failed"] * 3 and faults == 3, "while sqlite3 holds the file, each put fails, and none waits")
 
 
@@ -384,18 +428,40 @@ def try_all(tool):
 
 
 def measure(tool):
-    told = tool.run("measure", tool.path("measure.db"))
-    micros = [int(words[2]) for words in told if words[0] == "puts"]
-    for taken in micros:
-        print(f"1,000 puts into a file: {taken / 1000:.0f} us each, {1_000_000_000 // max(taken, 1)} a second")
-    pages = [int(words[2]) for words in told if words[0] == "pages"]
-    print(f"a page of 100 notes: {pages[0] / 100:.0f} us")
-    before, behind = [[int(w) for w in words[1:]] for words in told if words[0] == "memory"]
-    size = os.sysconf("SC_PAGE_SIZE")
-    print(f"a board of 10,000 notes: {(behind[1] - before[1]) * size} bytes of memory more (wanted: under 2,000,000)")
+    told = tool.run("put", tool.path("measure.db"))
+    puts = sorted(int(words[1]) for words in told if words[0] == "put")
+    check(told[-1] == ["faults", "0"] and len(puts) == 300, "300 notes are put into a file")
+    mean = sum(puts) / len(puts)
+    print(f"a put takes {mean / 1000:.1f} ms in the mean ({1_000_000 / mean:.0f} a second), half of them under "
+          f"{puts[150] / 1000:.1f} ms, the longest {puts[-1] / 1000:.1f} ms; {tool.processor / 300 * 1000:.1f} ms of a processor")
     for name in ("measure.db", "measure.db-wal"):
         if os.path.exists(tool.path(name)):
-            print(f"{name} has {os.path.getsize(tool.path(name))} bytes after 3,000 puts")
+            print(f"{name} has {os.path.getsize(tool.path(name))} bytes then")
+    told = tool.run("page", tool.path("measure.db"))
+    print(f"the file is opened again in {int(told[0][1]) / 1000:.0f} ms")
+    pages = sorted(int(words[1]) for words in told if words == ["page", words[1], "100"])
+    check(len(pages) == 20, "20 pages of 100 notes are read")
+    print(f"a page of 100 notes takes {sum(pages) / 20_000:.1f} ms in the mean, the longest {pages[-1] / 1000:.1f} ms")
+    measure_held(tool)
+    measure_boards(tool)
+
+
+def measure_held(tool):
+    holder = hold(tool, "measure.db")
+    opened, both, faults = [int(w) for w in tool.run("held", tool.path("measure.db"))[0][1:]]
+    release(holder)
+    check(faults == 1, "a put into a file that sqlite3 holds fails")
+    print(f"the file is refused in {opened} us, and the put's answer is there {both - opened} us later")
+    check(both <= 100_000, "both in less than 100 ms")
+
+
+def measure_boards(tool):
+    told = tool.run("boards", "20")
+    boards = [words for words in told if words[0] == "board"]
+    check(boards == [["board", "10000", "0"]] * 20, "20 boards have 10,000 notes each, and let none go")
+    before, behind = [int(words[1]) * 1024 for words in told if words[0] == "Rss:"]
+    size = (behind - before) // 20
+    check(size < 2_000_000, f"one takes {size} bytes of memory, less than 2,000,000")
 
 
 def main():
