@@ -2,6 +2,7 @@
 use Rattle.std.specs.Prelude.{◌≡◌, ◌≢◌, ℕ, ◌+◌, ◌*◌, ◌≤◌, ◌<◌, Bool, true, false, List, [], ◌++◌, length, take}
 use Rattle.rd_base.specs.declared.values.Scan.TheVariants.{Whole, Bad}
 use Rattle.rd_base.specs.declared.values.Part.{Part}
+use Rattle.rd_base.specs.declared.values.Part.TheVariants.{Request}
 use Rattle.rd_base.specs.declared.values.Phase.{Phase}
 use Rattle.rd_base.specs.declared.values.Note.{Note}
 use Rattle.rd_dialect.specs.Grammar.{Grammar, scan_of, IsPart, tokens_of}
@@ -32,3 +33,6 @@ pub record Lawful (g : Grammar) : Type 0 where
   pub flat_front : (part : Part) (phase : Phase) (note : Note) (bytes more : List ℕ) (whole : Bool) → IsPart g part phase note (bytes ++ more) whole → IsFront (g.flat part phase note bytes false) (g.flat part phase note (bytes ++ more) whole)
   -- after a farewell no bytes are a request
   pub last : (phase : Phase) (note : Note) (bytes : List ℕ) (len : ℕ) → g.is_farewell note ≡ true → g.scan_request (g.phase_after phase note []) bytes ≢ Whole len
+  -- a request's tokens and its flat form don't depend on a note
+  pub note_free : (phase : Phase) (note other : Note) (bytes : List ℕ) (whole : Bool) → tokens_of g Request phase note bytes whole ≡ tokens_of g Request phase other bytes whole
+  pub flat_note_free : (phase : Phase) (note other : Note) (bytes : List ℕ) (whole : Bool) → g.flat Request phase note bytes whole ≡ g.flat Request phase other bytes whole

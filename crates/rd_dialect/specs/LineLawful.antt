@@ -24,6 +24,10 @@ all_left : (part : Part) (phase : Phase) (note : Note) (bytes : List ℕ) (whole
 all_left part phase note bytes true = refl
 all_left part phase note bytes false = refl
 
+note_free : (phase : Phase) (note other : Note) (bytes : List ℕ) (whole : Bool) → tokens_of line Request phase note bytes whole ≡ tokens_of line Request phase other bytes whole
+note_free phase note other bytes true = refl
+note_free phase note other bytes false = refl
+
 pub line_lawful : Lawful line
 line_lawful =
     record {
@@ -41,4 +45,6 @@ line_lawful =
       token_count = λ part phase note flat whole. words_count whole flat;
       flat_front = λ part phase note bytes more whole stands. record { rest = more; is = refl };
       last = λ phase note bytes len is. absurd (cc is);
+      note_free = note_free;
+      flat_note_free = λ phase note other bytes whole. refl;
     }

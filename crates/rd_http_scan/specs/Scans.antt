@@ -181,3 +181,8 @@ flat_form part head_request bytes whole = flat_behind (answers_head part head_re
 pub flat_form_is : (part : Part) (head_request : Bool) (bytes : List ℕ) (whole : Bool) → IsFlat part head_request bytes whole (flat_form part head_request bytes whole)
 unfolding flat_form
 flat_form_is part head_request bytes whole = (final_head part bytes, final_head_is part bytes, refl)
+
+-- of a request it isn't looked at whether a reply answers a HEAD
+pub flat_form_of_request : (one other : Bool) (bytes : List ℕ) (whole : Bool) → flat_form Request one bytes whole ≡ flat_form Request other bytes whole
+unfolding flat_form
+flat_form_of_request one other bytes whole = refl

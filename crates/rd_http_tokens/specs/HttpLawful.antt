@@ -15,7 +15,7 @@ use Rattle.rd_http_frame.specs.Units.{IsUnitScan}
 use Rattle.rd_http_frame.proofs.UnitCuts.{unit_once, unit_some, unit_within, unit_itself, unit_stays, unit_hopeless}
 use Rattle.rd_http_frame.proofs.FlatForms.{flat_forms}
 use Rattle.rd_http_frame.proofs.HeadOnce.{take_longer}
-use Rattle.rd_http_scan.specs.Scans.{unit_scan, unit_scan_is, flat_form, flat_form_is}
+use Rattle.rd_http_scan.specs.Scans.{unit_scan, unit_scan_is, flat_form, flat_form_is, flat_form_of_request}
 use Rattle.rd_http_scan.specs.Ends.{body_end, end_stays}
 use Rattle.rd_base.specs.declared.names.NameRules.{NameRules}
 use Rattle.rd_http_tokens.specs.Tokens.{head_tokens}
@@ -117,6 +117,11 @@ flat_size part note bytes whole =
     let hr = is_head note in
     (flat_forms part hr).size bytes whole (flat_form part hr bytes whole) (flat_form_is part hr bytes whole)
 
+-- ---- a request's form
+
+request_flat : (note other : Note) (bytes : List ℕ) (whole : Bool) → flat_of Request note bytes whole ≡ flat_of Request other bytes whole
+request_flat note other bytes whole = flat_form_of_request (is_head note) (is_head other) bytes whole
+
 -- ---- the law
 
 pub http_lawful : (names : NameRules) (learns : Bool) (asked : List ℕ → List (List ℕ)) (to_copy : ℕ → List Row → List ℕ → List ℕ) → Lawful (http names learns asked to_copy)
@@ -133,8 +138,15 @@ http_lawful names learns asked to_copy =
       token_count = λ part phase note flat whole. left_few names part whole flat;
       flat_front = λ part phase note bytes more whole stands. begins part note bytes more whole;
       last = λ phase note bytes len farewell. absurd (cc farewell);
+      note_free = note_free;
+      flat_note_free = λ phase note other bytes whole. request_flat note other bytes whole;
     }
   where
+    note_free : (phase : Phase) (note other : Note) (bytes : List ℕ) (whole : Bool)
+        → tokens_of (http names learns asked to_copy) Request phase note bytes whole ≡ tokens_of (http names learns asked to_copy) Request phase other bytes whole
+    note_free phase note other bytes true = ap (λ flat. left_at names Request true flat first) (request_flat note other bytes true)
+    note_free phase note other bytes false = ap (λ flat. left_at names Request false flat first) (request_flat note other bytes false)
+
     within : (part : Part) (phase : Phase) (note : Note) (bytes : List ℕ) (ended : Bool) (len : ℕ) → scan_of (http names learns asked to_copy) part phase note bytes ended ≡ Whole len → len ≤ length bytes
     within Request phase note bytes ended len e = unit_within Request false false bytes len (scan_is Request false false bytes (Whole len) e)
     within Reply phase note bytes ended len e = unit_within Reply (is_head note) ended bytes len (scan_is Reply (is_head note) ended bytes (Whole len) e)

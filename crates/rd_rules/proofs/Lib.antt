@@ -9,4 +9,10 @@ pub mod GivenSteps
 pub mod Moments
 pub mod Masks
 pub mod Acted
-pub mod Stopping
+pub mod Endings
+pub mod Silence
+pub mod FailedWrites
+pub mod QuietWrites
+pub mod Withheld
+pub mod Farewells
+pub mod OwnRows

@@ -9,7 +9,7 @@ use Rattle.rd_base.specs.Outside.{SinkTold}
 use Rattle.rd_base.specs.declared.values.Ending.{Ending}
 use Rattle.rd_base.specs.declared.values.Ending.TheVariants.{Stopped, NoMemory}
 use Rattle.rd_rules.specs.Exchange.{Rules}
-use Rattle.rd_rules.proofs.Stopping.{only_stops}
+use Rattle.rd_rules.proofs.Endings.{only_stops}
 use Rattle.rd_runner.specs.Counts.{RoseBy}
 use Rattle.rd_turn.specs.declared.log.LogEntry.{LogEntry}
 use Rattle.rd_turn.specs.declared.running.Over.{Over}

@@ -10,7 +10,7 @@ use Rattle.rd_rules.specs.Exchange.{Rules}
 use Rattle.rd_gate.specs.declared.gate.View.{View}
 use Rattle.rd_gate.specs.Gate.{nobody, owner}
 use Rattle.rd_token_map.specs.BookCalls.{BookCall}
-use Rattle.rd_runner.specs.declared.left.Summary.{Summary}
+use Rattle.rd_runner.specs.declared.session.Summary.{Summary}
 use Rattle.rd_runner.specs.Counts.{RoseBy, stopped, unstarted, late}
 use Rattle.rd_turn.specs.Turns.{Turn, Outside, outside, history_of}
 use Rattle.rd_turn.specs.Runs.{EndsBy}
@@ -23,7 +23,7 @@ use Rattle.rd_run_session.specs.Left.{summary_of, last_stamp}
 use Rattle.rd_run_session.specs.Counted.{Counted, capped}
 use Rattle.rd_run_session.specs.Laws.{CountsStops, StampsWithin}
 use Rattle.rd_run_session.proofs.Causes.{stops_are_counted, stamps_are_within}
-use Rattle.rd_run_session.proofs.NeverUnstarted.{never_unstarted}
+use Rattle.rd_rules.proofs.Endings.{never_unstarted}
 
 -- ---- counts that stand still
 

@@ -1,6 +1,5 @@
 mod Asked
 mod Causes
-mod NeverUnstarted
 mod Counting
 mod Links
 mod Coming

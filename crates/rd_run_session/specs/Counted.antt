@@ -1,7 +1,7 @@
 -- What the run of a session does to counts.
 use Rattle.std.specs.Prelude.{ℕ, ◌≤◌, ◌-◌, ◌^◌, min}
 use Rattle.rd_base.specs.Clocks.{ClockTold, StopperTold}
-use Rattle.rd_runner.specs.declared.left.Summary.{Summary}
+use Rattle.rd_runner.specs.declared.session.Summary.{Summary}
 use Rattle.rd_runner.specs.Counts.{RoseBy, stopped, unstarted, late}
 
 -- a count, at most its last value

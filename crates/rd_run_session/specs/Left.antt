@@ -1,6 +1,6 @@
 -- What a session leaves, in numbers.
 use Rattle.std.specs.Prelude.{ℕ, ◌^◌, ◌-◌, min, List, [], ◌∷◌, length}
-use Rattle.rd_runner.specs.declared.left.Summary.{Summary}
+use Rattle.rd_runner.specs.declared.session.Summary.{Summary}
 use Rattle.rd_turn.specs.declared.log.LogEntry.{LogEntry}
 use Rattle.rd_run.specs.declared.run.Report.{Report}
 

@@ -2,7 +2,7 @@ ghost use Rattle.std.specs.Prelude.{◌≡◌};
 ghost use Rattle.rd_run_session.specs.Left.{summary_of, last_stamp};
 
 use rd_run::{LeftOver, Log, Report};
-use rd_runner::{Left, Summary};
+use rd_runner::Summary;
 use std::sync::Wait;
 
 /// What a session leaves beside its links: what it tells, and the items that came to no step.
@@ -12,10 +12,9 @@ pub struct SessionLeft<R: Wait + Copy> {
     pub left_over: LeftOver,
 }
 
-impl<R: Wait + Copy + Send + 'static> Left for SessionLeft<R> {
-    ghost tells = { λ l. summary_of l.report };
-
-    fn summary(&self) -> Summary
+impl<R: Wait + Copy> SessionLeft<R> {
+    /// What the session came to, in numbers.
+    pub fn summary(&self) -> Summary
         ensures { result ≡ summary_of self.now.report }
     {
         Summary {

@@ -100,6 +100,26 @@ impl<P: Spawner, C: Clock, Q: Stopper, R: Wait + Threads + Copy> SessionRunner<P
             stop,
         }
     }
+
+    /// The spawner, the clock and the stopper that it kept, with what they counted.
+    pub fn into_parts(self) -> (P, C, Q)
+        ensures refusals { capped (P.tells result.0).refusals ≡ self.refusals }
+        ensures span { (C.tells result.1).span ≡ self.span }
+        ensures yeses { (Q.tells result.2).yeses ≡ self.yeses }
+    {
+        let SessionRunner {
+            rt: _,
+            alloc: _,
+            limits: _,
+            incoming: _,
+            outgoing: _,
+            rules: _,
+            spawner,
+            clock,
+            stop,
+        } = self;
+        (spawner, clock, stop)
+    }
 }
 
 /// Runs the session of a visit in this dialect.

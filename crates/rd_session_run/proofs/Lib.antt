@@ -4,4 +4,3 @@ mod Steps
 mod Ruled
 mod Sums
 mod Events
-mod Silence

@@ -114,6 +114,10 @@ last : (phase note : ℕ) (bytes : List ℕ) (len : ℕ) → (note == 3) ≡ tru
 last phase note bytes len farewell e =
     nothing_whole bytes len (sym (ap (λ t. scan_request (cond t 2 (cond (phase == 0 && slice_index [] (shown_from note []) == 121) 1 phase)) bytes) farewell) ∙ e)
 
+note_free : (phase : Phase) (note other : Note) (bytes : List ℕ) (whole : Bool) → tokens_of toy Request phase note bytes whole ≡ tokens_of toy Request phase other bytes whole
+note_free phase note other bytes true = refl
+note_free phase note other bytes false = refl
+
 pub toy_lawful : Lawful toy
 toy_lawful =
     record {
@@ -130,4 +134,6 @@ toy_lawful =
       token_count = λ part phase note flat whole. words_count whole flat;
       flat_front = λ part phase note bytes more whole stands. record { rest = more; is = refl };
       last = λ phase note bytes len farewell. last phase.0 note.0 bytes len farewell;
+      note_free = note_free;
+      flat_note_free = λ phase note other bytes whole. refl;
     }

@@ -25,8 +25,8 @@ use Rattle.rd_turn.specs.Acts.{WroteStep, WroteTurn, Goes, Went, GaveUp}
 use Rattle.rd_turn.specs.Turns.{Turn, Did, Took, Looked, Stopped, Outside, after_turn, stamp, entry_at, step_of, failure, told_in, turn_entries, turn_step, history_of, told_of, logged, rules_by, IsInTime, AreTimely, IsAmong, AreAmong, item_taken}
 use Rattle.rd_turn.specs.Runs.{AreCounts, BrokeOff, WroteSent, EndsBy, Truly, HasRun, Runs, RunsTruly}
 use Rattle.rd_turn.proofs.Asked.{map_snoc}
-use Rattle.rd_turn.proofs.FailedWrites.{failed_final}
-use Rattle.rd_turn.proofs.QuietWrites.{sent_same, exchanges_same, masked_same}
+use Rattle.rd_rules.proofs.FailedWrites.{failed_final}
+use Rattle.rd_rules.proofs.QuietWrites.{sent_same, exchanges_same, masked_same}
 use Rattle.rd_turn.proofs.Writes.{wrote_nothing}
 
 pub wrote_at_start : (f : ℕ → List ℕ) (sinks : List SinkTold) → AreOpen sinks → ((l : ℕ) → f l ≡ []) → AllWrote f sinks sinks

@@ -10,7 +10,7 @@ use Rattle.rd_session_run.specs.Counting.{AreCounts}
 use Rattle.rd_session_run.specs.Summaries.{summary}
 use Rattle.rd_session_run.proofs.Events.{none_taken}
 use Rattle.rd_session_run.proofs.Ruled.{made_rules}
-use Rattle.rd_session_run.proofs.Silence.{nothing_sent, nothing_sent_to}
+use Rattle.rd_rules.proofs.Silence.{nothing_sent, nothing_sent_to}
 use Rattle.rd_session_run.proofs.summary.summarize.Goals as goal
 
 pub loop-place-init : goal.loop-place-init

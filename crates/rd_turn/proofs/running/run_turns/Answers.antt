@@ -9,7 +9,7 @@ use Rattle.rd_turn.specs.Turns.{Turn, Outside, outside, rules_by}
 use Rattle.rd_turn.specs.Acts.{Went, GaveUp}
 use Rattle.rd_turn.specs.Runs.{AreCounts}
 use Rattle.rd_turn.proofs.Writes.{count_of}
-use Rattle.rd_turn.proofs.Silence.{nothing_sent}
+use Rattle.rd_rules.proofs.Silence.{nothing_sent}
 use Rattle.rd_turn.proofs.RunSteps.{wrote_at_start, runs_start, runs_on, runs_out, runs_off, runs_up, same_rules, some_or}
 use Rattle.rd_turn.proofs.running.run_turns.Goals as goal
 
