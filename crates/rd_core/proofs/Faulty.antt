@@ -1,8 +1,8 @@
 -- Links that fail, and stops, one happening further.
-use Rattle.std.proofs.Common.{◌≡◌, ℕ, zero, suc, ◌+◌, Bool, true, false, List, [], ◌∷◌, ◌++◌, Option, Some, None, refl, sym, ap, ap₂, ◌∙◌, arith, cond}
-use Rattle.std.specs.Prelude.{find, ◌||◌, ◌==◌, nat_le, nat_lt}
+use Rattle.std.proofs.Common.{◌≡◌, ℕ, zero, suc, ◌+◌, Bool, true, false, List, [], ◌∷◌, ◌++◌, map, Option, Some, None, refl, sym, ap, ap₂, ◌∙◌, arith, cond}
+use Rattle.std.specs.Prelude.{find, option_map, ◌||◌, ◌&&◌, ◌==◌, nat_le, nat_lt}
 use Rattle.std.specs.Option.{option_or}
-use Rattle.rd_core.specs.Faults.{failing, fault_of, fault_by}
+use Rattle.rd_core.specs.Faults.{failing, fault_of, fault_by, past_among}
 use Rattle.rd_base.specs.declared.values.Ending.TheVariants.{LinkFault}
 use Rattle.std.specs.List.{list_any}
 use Rattle.std.proofs.lemmas.List.Folds.{list_any-append, find-append}
@@ -14,8 +14,11 @@ use Rattle.rd_base.specs.declared.values.Ending.{Ending}
 use Rattle.rd_base.specs.Words.{below}
 use Rattle.rd_base.specs.History.{History, is_stop}
 use Rattle.rd_dialect.specs.Grammar.{Grammar}
-use Rattle.rd_rules.specs.Exchange.{Rules}
-use Rattle.rd_rules.specs.Trouble.{Now, or_else, fails, link_fault_at, link_fault, stopped_at, stopped, link_of, first_trouble, unsolicited_by}
+use Rattle.rd_base.specs.declared.values.Link.{Link}
+use Rattle.rd_base.specs.declared.values.Ending.TheVariants as ending
+use Rattle.rd_rules.specs.Exchange.{Rules, Ask, Open}
+use Rattle.rd_rules.specs.Step.{grow_by}
+use Rattle.rd_rules.specs.Trouble.{Now, or_else, fails, link_fault_at, link_fault, stopped_at, stopped, link_of, first_trouble, unsolicited_by, unsolicited_among, goes_past}
 
 or_false : (b : Bool) → (b || false) ≡ b
 or_false true = refl
@@ -110,3 +113,21 @@ fault_is n (ReadFail m) = sym (ap link_fault_at (find_or m.0 (below (n + 1))) �
 fault_is n (WriteFail m) = sym (fault_one m.0 n)
 fault_is n Timer = sym (ap link_fault_at (never (below (n + 1))))
 fault_is n Stop = sym (ap link_fault_at (never (below (n + 1))))
+
+-- ---- a piece that stands behind what was open
+
+past_at : (g : Grammar) (out : Option Ask) (bytes piece : List ℕ) (b : Bool) → (b && goes_past g out (bytes ++ cond b piece [])) ≡ (b && goes_past g out (bytes ++ piece))
+past_at g out bytes piece true = refl
+past_at g out bytes piece false = refl
+
+found_at : (b : Bool) (o p : Open) (x y : Option Open) → o.link ≡ p.link → option_map (λ o. ending.Unsolicited (link_of o.link)) x ≡ option_map (λ o. ending.Unsolicited (link_of o.link)) y
+    → option_map (λ o. ending.Unsolicited (link_of o.link)) (cond b (Some o) x) ≡ option_map (λ o. ending.Unsolicited (link_of o.link)) (cond b (Some p) y)
+found_at true o p x y link rest = ap (λ l. Some (ending.Unsolicited (link_of l))) link
+found_at false o p x y link rest = rest
+
+pub past_grown : (g : Grammar) (out : Option Ask) (l : Link) (piece : List ℕ) (os : List Open) → past_among g out l.0 (map (grow_by (Piece l piece)) os) ≡ unsolicited_among g out l.0 piece os
+past_grown g out l piece [] = refl
+past_grown g out l piece (o ∷ os) =
+    let rest = find (λ p. (p.link == l.0) && goes_past g out p.bytes) (map (grow_by (Piece l piece)) os) in
+    ap (λ b. option_map (λ (p : Open). ending.Unsolicited (link_of p.link)) (cond b (Some (grow_by (Piece l piece) o)) rest)) (past_at g out o.bytes piece (o.link == l.0))
+    ∙ found_at ((o.link == l.0) && goes_past g out (o.bytes ++ piece)) (grow_by (Piece l piece) o) o rest (find (λ p. (p.link == l.0) && goes_past g out (p.bytes ++ piece)) os) refl (past_grown g out l piece os)

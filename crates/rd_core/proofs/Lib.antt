@@ -9,3 +9,4 @@ pub mod WantedSteps
 pub mod Planned
 pub mod Moves
 pub mod Faces
+mod Alone

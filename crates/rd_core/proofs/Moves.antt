@@ -28,9 +28,10 @@ use Rattle.rd_core.specs.declared.stage.Stage.{Stage}
 use Rattle.rd_core.specs.declared.clock.Clock.{Clock}
 use Rattle.rd_reading.specs.Room.{HasRoom}
 use Rattle.rd_reading.specs.Seen.{seen_request, seen_front}
-use Rattle.rd_core.specs.Stages.{seen_stage}
+use Rattle.rd_reading.specs.declared.exchange.Request.{Request}
+use Rattle.rd_core.specs.Stages.{seen_stage, HasAsked}
 use Rattle.rd_core.specs.Clocks.{standing}
-use Rattle.rd_core.specs.Kept.{Fits, UnitFits, IsOut, HasMore, is_oversized}
+use Rattle.rd_core.specs.Kept.{Fits, UnitFits, IsOut, IsKept, HasMore, is_oversized}
 use Rattle.rd_core.specs.Standing.{next_reading, now_from, now_after, began_at, standing_by, standing_after}
 
 pub is_some-map : {A B : Type 0} (f : A → B) (o : Option A) → is_some (option_map f o) ≡ is_some o
@@ -212,3 +213,38 @@ start_fits r most = no_bytes most (rule.askers r.side r.limits.copies)
 pub masked_first : (side : Side) (r : Rules) (now : rule.Reading) → masked_now side r false now ≡ masked_on side r now
 masked_first Incoming r now = refl
 masked_first Outgoing r now = refl
+
+-- ---- a session that stands where it stood
+
+more_same : (setup : Setup) (old new : Stage) (entries : ℕ) → new.out ≡ old.out → seen_front new.left ≡ seen_front old.left → HasMore setup old entries → HasMore setup new entries
+more_same setup old new entries out left more =
+    let most = setup.limits.unit_max in
+    record {
+      asking = subst (λ (f : rule.Front). All (Fits most) (open_asking setup.side f.asking (option_map seen_request new.out))) (sym left)
+          (subst (λ (o : Option Request). All (Fits most) (open_asking setup.side old.left.asking.items (option_map seen_request o))) (sym out) more.asking);
+      units = λ ask is. more.units ask (ap (option_map seen_request) (sym out) ∙ is);
+      answering = subst (λ (f : rule.Front). All (Fits most) f.answering) (sym left) more.answering;
+      room = more.room;
+    }
+
+pub kept_same : (g : Grammar) (setup : Setup) (old new : Stage) (entries sum : ℕ) (end : Option Ending) → new.count ≡ old.count → new.out ≡ old.out → seen_front new.left ≡ seen_front old.left
+    → IsKept g setup old entries sum end → IsKept g setup new entries sum end
+kept_same g setup old new entries sum end count out left kept = record {
+  limits = kept.limits;
+  count = subst (λ n. n ≤ setup.limits.exchanges_max) (sym count) kept.count;
+  asked = subst (HasAsked g) (sym out) kept.asked;
+  out = λ ask is. ap (rule.ask_at g setup.limits.mask) left ∙ kept.out ask (ap (option_map seen_request) (sym out) ∙ is);
+  masked = kept.masked;
+  more = λ none. more_same setup old new entries out left (kept.more none);
+}
+
+-- a session that has ended keeps what a live one did
+pub kept_over : (g : Grammar) (setup : Setup) (stage : Stage) (entries sum : ℕ) (x : Ending) → IsKept g setup stage entries sum None → IsKept g setup stage entries sum (Some x)
+kept_over g setup stage entries sum x kept = record {
+  limits = kept.limits;
+  count = kept.count;
+  asked = kept.asked;
+  out = kept.out;
+  masked = kept.masked;
+  more = λ none. absurd (cc none);
+}

@@ -10,9 +10,10 @@ use Rattle.rd_rules.specs.Given.{learnt, own_after, exchange_rows}
 use Rattle.rd_rules.specs.Trouble.{ends_by}
 use Rattle.rd_reading.specs.declared.exchange.DoneExchange.{DoneExchange}
 use Rattle.rd_reading.specs.declared.exchange.Reading.{Reading}
-use Rattle.rd_core.specs.declared.stage.Stage.{Stage}
-use Rattle.rd_reading.specs.Seen.{seen_request, seen_exchange, seen_front, seen_reading, rows_are}
-use Rattle.rd_core.specs.Stages.{seen_stage}
+use Rattle.rd_reading.specs.declared.exchange.Front.{Front}
+use Rattle.rd_core.specs.declared.stage.Next.{Next}
+use Rattle.rd_reading.specs.Seen.{seen_request, seen_exchange, seen_front, latest_front, seen_reading, rows_are}
+use Rattle.rd_core.specs.Stages.{seen_next}
 use Rattle.rd_core.specs.Standing.{now_from}
 
 flat_by : {A : Type 0} (f : A → List Row) (xs : List A) → flat_map f xs ≡ flat_map (λ rows. rows) (map f xs)
@@ -30,16 +31,16 @@ rows_of r xs are =
     ∙ sym (flat_by (λ x. exchange_rows r (seen_exchange x)) xs)
     ∙ flat_seen r xs
 
-pub stage_is : (r : Rules) (count : ℕ) (bye : Bool) (own rows : List Row) (made : Reading) (stage : Stage) (next : rule.Reading)
+pub stage_is : (r : Rules) (count : ℕ) (bye : Bool) (own rows : List Row) (made : Reading) (left : Front) (stage : Next) (next : rule.Reading)
     → seen_reading made ≡ next → length made.done.items + made.spare ≡ r.limits.exchanges_max - count → count ≤ r.limits.exchanges_max
-    → stage.count ≡ r.limits.exchanges_max - made.spare → stage.bye ≡ ends_by r.grammar bye (map seen_exchange made.done.items) → stage.left ≡ made.left → stage.out ≡ made.out
+    → stage.count ≡ r.limits.exchanges_max - made.spare → stage.bye ≡ ends_by r.grammar bye (map seen_exchange made.done.items) → latest_front left stage.left ≡ latest_front made.from.now made.left → stage.out ≡ made.out
     → rows ≡ flat_map (λ x. x.replies.rows) made.done.items → rows_are r made.done.items
-    → seen_stage stage (learnt own rows) ≡ now_from r count bye own next
-stage_is r count bye own rows made stage next is spare most count_is bye_is left_is out_is rows_is are =
+    → seen_next left stage (learnt own rows) ≡ now_from r count bye own next
+stage_is r count bye own rows made left stage next is spare most count_is bye_is left_is out_is rows_is are =
     let n : stage.count ≡ count + length (map seen_exchange made.done.items) = omega (arith, length-map made.done.items seen_exchange) in
     let learns : learnt own rows ≡ own_after r own (map seen_exchange made.done.items) = ap (learnt own) (rows_is ∙ rows_of r made.done.items are) in
-    ap₂ (λ (k : ℕ) (b : Bool). record { count = k; bye = b; own = learnt own rows; left = seen_front stage.left; out = option_map seen_request stage.out }) n bye_is
+    ap₂ (λ (k : ℕ) (b : Bool). record { count = k; bye = b; own = learnt own rows; left = seen_front (latest_front left stage.left); out = option_map seen_request stage.out }) n bye_is
     ∙ ap₂ (λ (f : rule.Front) (o : Option Ask). record { count = count + length (map seen_exchange made.done.items); bye = ends_by r.grammar bye (map seen_exchange made.done.items); own = learnt own rows; left = f; out = o })
     (ap seen_front left_is) (ap (option_map seen_request) out_is)
-    ∙ ap (λ (o : List Row). record { count = count + length (map seen_exchange made.done.items); bye = ends_by r.grammar bye (map seen_exchange made.done.items); own = o; left = seen_front made.left; out = option_map seen_request made.out }) learns
+    ∙ ap (λ (o : List Row). record { count = count + length (map seen_exchange made.done.items); bye = ends_by r.grammar bye (map seen_exchange made.done.items); own = o; left = seen_front (latest_front made.from.now made.left); out = option_map seen_request made.out }) learns
     ∙ ap (now_from r count bye own) is

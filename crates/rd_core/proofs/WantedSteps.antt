@@ -1,5 +1,5 @@
 -- The words that an entry asks, from where a session stands.
-use Rattle.std.proofs.Common.{◌≡◌, List, [], ◌∷◌, ◌++◌, length, drop, Some, None, sym, ap, ap₂, subst, ◌∙◌, arith, true}
+use Rattle.std.proofs.Common.{◌≡◌, List, [], ◌∷◌, ◌++◌, length, drop, Option, Some, None, refl, sym, ap, ap₂, subst, ◌∙◌, arith, true}
 use Rattle.std.specs.Prelude.{is_some}
 use Rattle.std.proofs.lemmas.List.{drop_at, drop_all}
 use Rattle.rd_base.specs.declared.values.Ending.{Ending}
@@ -59,3 +59,11 @@ module _ {D : Type 0} (r : Rules) (laws : Lawful r.grammar) (old : Seen D) (h : 
       ∙ ap (words_of r) (sym (fresh r now next grown))
       ∙ ap (λ x. words_of r (past_of r now x)) (sym is)
       ∙ ap₂ (λ f g. words_of r (past_of r (reading r f) (reading r g))) (sym (acted_live r h (none live))) (sym (acted_next r h e (none live) (unsolicited_is live ∙ u)))
+
+  -- nothing that it would read is asked
+  pub wanted_alone : old.ending ≡ None → words_read r old.at.stage.own (is_some old.at.stage.out) (next_reading r old.at.stage e) ≡ [] → [] ≡ wanted r h e
+  wanted_alone live none_read = by (unsolicited_by r.grammar old.at.stage e.what) refl
+    where
+      by : (o : Option Ending) → unsolicited_by r.grammar old.at.stage e.what ≡ o → [] ≡ wanted r h e
+      by None u = sym none_read ∙ wanted_on live u
+      by (Some x) u = wanted_held x live u

@@ -6,3 +6,5 @@ pub mod Faces
 pub mod Kept
 pub mod Masks
 pub mod Clocks
+pub mod Awaited
+pub mod Alone

@@ -1,24 +1,15 @@
-ghost use Rattle.std.specs.Prelude.{◌≡◌, ◌++◌, [], List, ℕ, Some, None, option_map, ◌&&◌, ◌==◌, IfOk};
+ghost use Rattle.std.specs.Prelude.{◌≡◌, List, ℕ, Some, None, map, option_map, ◌&&◌, ◌==◌};
 ghost use Rattle.rd_base.specs.History.{is_stop};
 ghost use Rattle.rd_rules.specs.Trouble as rule;
-ghost use Rattle.rd_core.specs.Faults.{failing, fault_of, fault_by};
-ghost use Rattle.rd_core.specs.Stages.{seen_stage, HasAsked};
+ghost use Rattle.rd_rules.specs.Step.{grow_by};
+ghost use Rattle.rd_core.specs.Faults.{failing, fault_of, fault_by, past_among};
+ghost use Rattle.rd_core.specs.Stages.{HasAsked};
 ghost use Rattle.rd_reading.specs.Seen.{seen_request};
 
-use crate::stage::Stage;
 use crate::trouble::or_else;
-use rd_base::{Bytes, Ending, Limits, Link, NoMemory, Scan, What};
+use rd_base::{Ending, Limits, Link, Scan, What};
 use rd_dialect::{Dialect, Due, scan_due};
 use rd_reading::{Open, Request, note_of};
-use std::alloc::Global;
-
-fn joined(alloc: Global, first: &[u8], second: &[u8]) -> Result<Bytes, NoMemory>
-    ensures { IfOk result (λ b. b ≡ first.now ++ second.now) }
-{
-    let mut bytes = Bytes::from_slice(alloc, first)?;
-    bytes.push_slice(second)?;
-    Ok(bytes)
-}
 
 fn is_past(scan: Scan, len: usize) -> bool
     ensures { result ≡ rule.is_past scan len }
@@ -43,69 +34,51 @@ fn goes_past<D: Dialect>(dialect: &D, out: &Option<Request>, bytes: &[u8]) -> bo
     }
 }
 
-/// Whether a piece of a link goes past the reply that is out on it.
-fn speaks_past<D: Dialect>(
-    alloc: Global,
-    dialect: &D,
-    out: &Option<Request>,
-    link: Link,
-    piece: &[u8],
-    one: &Open,
-) -> Result<bool, NoMemory>
+/// Whether a link that answers was heard, and its bytes go past the reply that is out on it.
+fn speaks_past<D: Dialect>(dialect: &D, out: &Option<Request>, link: Link, one: &Open) -> bool
     requires { HasAsked (D.grammar dialect.now) out.now }
-    ensures { IfOk result (λ yes. yes ≡ ((one.now.link == link.0) && rule.goes_past (D.grammar dialect.now) (option_map seen_request out.now) (one.now.bytes ++ piece.now))) }
+    ensures { result ≡ ((one.now.link == link.0) && rule.goes_past (D.grammar dialect.now) (option_map seen_request out.now) one.now.bytes) }
 {
     if one.link() != link {
-        return Ok(false);
+        return false;
     }
-    let bytes = joined(alloc, one.bytes(), piece)?;
-    Ok(goes_past(dialect, out, bytes.as_slice()))
+    goes_past(dialect, out, one.bytes())
 }
 
 fn unsolicited_among<D: Dialect>(
-    alloc: Global,
     dialect: &D,
     out: &Option<Request>,
     link: Link,
-    piece: &[u8],
     opens: &[Open],
-) -> Result<Option<Ending>, NoMemory>
+) -> Option<Ending>
     requires { HasAsked (D.grammar dialect.now) out.now }
-    ensures { IfOk result (λ e. e ≡ rule.unsolicited_among (D.grammar dialect.now) (option_map seen_request out.now) link.0 piece.now opens.now) }
+    ensures { result ≡ past_among (D.grammar dialect.now) (option_map seen_request out.now) link.0 opens.now }
 {
     for one in opens {
-        if speaks_past(alloc, dialect, out, link, piece, one)? {
-            return Ok(Some(Ending::Unsolicited { link: one.link() }));
+        if speaks_past(dialect, out, link, one) {
+            return Some(Ending::Unsolicited { link: one.link() });
         }
     }
-    Ok(None)
+    None
 }
 
-/// A piece of a link that answers, which goes past the reply that was out before it.
+/// A piece of a link that answers, which goes past the reply that was out before it. The links that answer have heard it.
 pub(crate) fn unsolicited<D: Dialect>(
-    alloc: Global,
     dialect: &D,
-    stage: &Stage,
+    out: &Option<Request>,
+    answering: &[Open],
     what: &What,
-) -> Result<Option<Ending>, NoMemory>
-    requires { HasAsked (D.grammar dialect.now) stage.now.out }
-    ensures { IfOk result (λ e. e ≡ rule.unsolicited_by (D.grammar dialect.now) (seen_stage stage.now []) what.now) }
+) -> Option<Ending>
+    requires { HasAsked (D.grammar dialect.now) out.now }
+    ensures { (before : rule.Now) → before.out ≡ option_map seen_request out.now → answering.now ≡ map (grow_by what.now) before.left.answering → result ≡ rule.unsolicited_by (D.grammar dialect.now) before what.now }
 {
-    let What::Piece(link, bytes) = what else {
-        return Ok(None);
+    let What::Piece(link, _) = what else {
+        return None;
     };
     if dialect.early_replies() {
-        return Ok(None);
+        return None;
     }
-    let answering = stage.left.answering.as_slice();
-    unsolicited_among(
-        alloc,
-        dialect,
-        &stage.out,
-        *link,
-        bytes.as_slice(),
-        answering,
-    )
+    unsolicited_among(dialect, out, *link, answering)
 }
 
 fn failing(what: &What) -> Option<Link>

@@ -9,6 +9,7 @@ mod plan;
 mod sending;
 mod session;
 mod stage;
+mod step;
 mod trouble;
 mod waits;
 mod wanted;

@@ -1,46 +1,35 @@
-ghost use Rattle.std.specs.Prelude.{◌≡◌, ◌≤◌, ◌<◌, ◌+◌, ◌-◌, ◌++◌, [], ◌∷◌, List, ℕ, None, map, length, take, All, IfOk, OnOk};
+ghost use Rattle.std.specs.Prelude.{◌≡◌, ◌≤◌, ◌+◌, ◌-◌, [], List, ℕ, map, length, is_some, All, IfOk, OnOk, OnErr};
 ghost use Rattle.std.specs.List.{flat_map};
 ghost use Rattle.rd_base.specs.Limits.{AreLimits};
 ghost use Rattle.rd_base.specs.Sent.{sends_to};
-ghost use Rattle.rd_rules.specs.Exchange as rule;
 ghost use Rattle.rd_rules.specs.Given.{own_after, exchange_rows};
 ghost use Rattle.rd_rules.specs.Step.{given_now, masked_now};
 ghost use Rattle.rd_rules.specs.Trouble.{trouble_of, ends_by};
 ghost use Rattle.rd_reading.specs.Whole.{IsDone};
 ghost use Rattle.rd_reading.specs.Seen.{seen_exchange, seen_front, seen_reading, rules_of, rows_are};
 ghost use Rattle.rd_core.specs.OwnLists.{latest_of};
-ghost use Rattle.rd_core.specs.Stages.{seen_stage, HasAsked};
+ghost use Rattle.rd_core.specs.Stages.{seen_stage, seen_next, read_now, HasAsked};
 ghost use Rattle.rd_core.specs.Standing.{now_from};
 
 use crate::masks::masked_in;
 use crate::own_lists::OwnLists;
 use crate::sending::sends_of;
-use crate::stage::Stage;
+use crate::stage::{Next, Stage, enter};
 use crate::trouble::trouble_of;
 use rd_base::{Ending, NoMemory, Rows, Sends};
 use rd_dialect::Dialect;
-use rd_reading::{DoneExchange, Front, Reading, Setup, note_of, read_on};
+use rd_reading::{DoneExchange, Reading, Setup, note_of, read_on};
 use rd_token_map::OwnRows;
 use std::alloc::Global;
 
-/// What a step does, worked out before anything changes.
+/// What a step does, worked out before the session goes on to what is next.
 #[derive(Drop)]
 pub(crate) struct Plan {
-    pub(crate) stage: Stage,
+    pub(crate) next: Next,
     pub(crate) rows: Rows,
     pub(crate) own: Option<OwnRows>,
-    pub(crate) trouble: Option<Ending>,
     pub(crate) sends: Sends,
     pub(crate) masked: u64,
-}
-
-/// What is known before a step: the exchanges that are done, whether the last is a farewell, whether a
-/// request is out.
-#[derive(Clone, Copy, Debug, PartialEq, Eq)]
-pub(crate) struct Before {
-    pub(crate) count: u32,
-    pub(crate) bye: bool,
-    pub(crate) was_out: bool,
 }
 
 /// Whether the last exchange is a farewell; of none, what was so before.
@@ -66,79 +55,107 @@ fn rows_in(alloc: Global, done: &[DoneExchange]) -> Result<Rows, NoMemory>
     Ok(rows)
 }
 
-/// Where a session stands after what was read.
-fn stage_of<D: Dialect>(dialect: &D, setup: &Setup, before: bool, reading: Reading) -> Stage
-    requires spare { reading.spare ≤ setup.now.limits.exchanges_max }
-    requires done { All (λ x. IsDone (D.grammar dialect.now) (seen_exchange x)) reading.done.items }
-    ensures count { result.count ≡ setup.now.limits.exchanges_max - reading.spare }
-    ensures bye { result.bye ≡ ends_by (D.grammar dialect.now) before (map seen_exchange reading.done.items) }
-    ensures left { result.left ≡ reading.left }
-    ensures out { result.out ≡ reading.out }
-{
-    let bye = ends_in_farewell(dialect, before, reading.done.as_slice());
-    let Reading {
-        done: _,
-        left,
-        out,
-        spare,
-    } = reading;
-    Stage {
-        count: setup.limits.exchanges_max - spare,
-        bye,
-        left,
-        out,
-    }
-}
-
-/// What is read of a front, and what it comes to.
+/// What is read of what is open, and what it comes to.
 pub(crate) fn plan_of<D: Dialect>(
     alloc: Global,
     dialect: &D,
     setup: &Setup,
-    before: Before,
     own: &OwnRows,
     told: &Rows,
-    front: Front,
+    stage: &Stage,
 ) -> Result<Plan, NoMemory>
     requires limits { AreLimits setup.now.limits }
-    requires count { before.count ≤ setup.now.limits.exchanges_max }
-    ensures stage { IfOk result (λ p. seen_stage p.stage (latest_of own.now p.own) ≡ now_from (rules_of (D.grammar dialect.now) setup.now) before.count before.bye own.now
-        (rule.read (D.grammar dialect.now) setup.now.limits.mask (setup.now.limits.exchanges_max - before.count) (seen_front front))) }
-    ensures trouble { IfOk result (λ p. p.trouble ≡ trouble_of (rules_of (D.grammar dialect.now) setup.now) (seen_stage p.stage [])) }
-    ensures sends { IfOk result (λ p. p.sends ≡ sends_to (setup.now.limits.copies + 1) (λ link. given_now (rules_of (D.grammar dialect.now) setup.now) link own.now told.now before.was_out
-        (rule.read (D.grammar dialect.now) setup.now.limits.mask (setup.now.limits.exchanges_max - before.count) (seen_front front)))) }
-    ensures rows { IfOk result (λ p. p.rows ≡ flat_map (exchange_rows (rules_of (D.grammar dialect.now) setup.now))
-        (rule.read (D.grammar dialect.now) setup.now.limits.mask (setup.now.limits.exchanges_max - before.count) (seen_front front)).done) }
-    ensures masked { IfOk result (λ p. p.masked ≡ masked_now setup.now.side (rules_of (D.grammar dialect.now) setup.now) before.was_out
-        (rule.read (D.grammar dialect.now) setup.now.limits.mask (setup.now.limits.exchanges_max - before.count) (seen_front front))) }
+    requires count { stage.now.count ≤ setup.now.limits.exchanges_max }
+    ensures next { IfOk result (λ p. seen_next stage.now.left p.next (latest_of own.now p.own) ≡ now_from (rules_of (D.grammar dialect.now) setup.now) stage.now.count stage.now.bye own.now (read_now (rules_of (D.grammar dialect.now) setup.now) stage.now)) }
+    ensures sends { IfOk result (λ p. p.sends ≡ sends_to (setup.now.limits.copies + 1) (λ link. given_now (rules_of (D.grammar dialect.now) setup.now) link own.now told.now (is_some stage.now.out) (read_now (rules_of (D.grammar dialect.now) setup.now) stage.now))) }
+    ensures rows { IfOk result (λ p. p.rows ≡ flat_map (exchange_rows (rules_of (D.grammar dialect.now) setup.now)) (read_now (rules_of (D.grammar dialect.now) setup.now) stage.now).done) }
+    ensures masked { IfOk result (λ p. p.masked ≡ masked_now setup.now.side (rules_of (D.grammar dialect.now) setup.now) (is_some stage.now.out) (read_now (rules_of (D.grammar dialect.now) setup.now) stage.now)) }
     ensures few_masked { IfOk result (λ p. p.masked ≤ 16777216) }
-    ensures count { IfOk result (λ p. p.stage.count ≤ setup.now.limits.exchanges_max) }
-    ensures asked { IfOk result (λ p. HasAsked (D.grammar dialect.now) p.stage.out) }
+    ensures count { IfOk result (λ p. p.next.count ≤ setup.now.limits.exchanges_max) }
+    ensures asked { IfOk result (λ p. HasAsked (D.grammar dialect.now) p.next.out) }
 {
-    let spare = setup.limits.exchanges_max - before.count;
-    let reading = read_on(alloc, dialect, setup, spare, front)?;
+    let spare = setup.limits.exchanges_max - stage.count;
+    let was_out = stage.out.is_some();
+    let reading = read_on(alloc, dialect, setup, spare, &stage.left)?;
     let done = reading.done.as_slice();
     let mut lists = OwnLists::of(alloc, own, done)?;
-    let sends = sends_of(
-        alloc,
-        dialect,
-        setup,
-        &lists,
-        told,
-        before.was_out,
-        &reading,
-    )?;
+    let sends = sends_of(alloc, dialect, setup, &lists, told, was_out, &reading)?;
     let rows = rows_in(alloc, done)?;
     let later = lists.take_last();
-    let masked = masked_in(setup.side, before.was_out, &reading);
-    let stage = stage_of(dialect, setup, before.bye, reading);
-    let trouble = trouble_of(alloc, dialect, setup, &stage)?;
+    let masked = masked_in(setup.side, was_out, &reading);
+    let bye = ends_in_farewell(dialect, stage.bye, done);
+    let Reading {
+        from: _,
+        done: _,
+        left,
+        out,
+        spare: more,
+    } = reading;
+    let next = Next {
+        count: setup.limits.exchanges_max - more,
+        bye,
+        left,
+        out,
+    };
     Ok(Plan {
-        stage,
+        next,
         rows,
         own: later,
-        trouble,
         sends,
         masked,
     })
+}
+
+/// What a step came to, and the trouble of where it leads.
+#[derive(Drop)]
+pub(crate) struct Outcome {
+    pub(crate) rows: Rows,
+    pub(crate) own: Option<OwnRows>,
+    pub(crate) sends: Sends,
+    pub(crate) masked: u64,
+    pub(crate) trouble: Option<Ending>,
+}
+
+/// Reads what is open, and goes on past what was read.
+pub(crate) fn go_on<D: Dialect>(
+    alloc: Global,
+    dialect: &D,
+    setup: &Setup,
+    own: &OwnRows,
+    told: &Rows,
+    stage: &mut Stage,
+) -> Result<Outcome, NoMemory>
+    requires limits { AreLimits setup.now.limits }
+    requires count { stage.old.count ≤ setup.now.limits.exchanges_max }
+    ensures stage { IfOk result (λ p. seen_stage stage.new (latest_of own.now p.own) ≡ now_from (rules_of (D.grammar dialect.now) setup.now) stage.old.count stage.old.bye own.now (read_now (rules_of (D.grammar dialect.now) setup.now) stage.old)) }
+    ensures trouble { IfOk result (λ p. p.trouble ≡ trouble_of (rules_of (D.grammar dialect.now) setup.now) (seen_stage stage.new [])) }
+    ensures sends { IfOk result (λ p. p.sends ≡ sends_to (setup.now.limits.copies + 1) (λ link. given_now (rules_of (D.grammar dialect.now) setup.now) link own.now told.now (is_some stage.old.out) (read_now (rules_of (D.grammar dialect.now) setup.now) stage.old))) }
+    ensures rows { IfOk result (λ p. p.rows ≡ flat_map (exchange_rows (rules_of (D.grammar dialect.now) setup.now)) (read_now (rules_of (D.grammar dialect.now) setup.now) stage.old).done) }
+    ensures masked { IfOk result (λ p. p.masked ≡ masked_now setup.now.side (rules_of (D.grammar dialect.now) setup.now) (is_some stage.old.out) (read_now (rules_of (D.grammar dialect.now) setup.now) stage.old)) }
+    ensures few_masked { IfOk result (λ p. p.masked ≤ 16777216) }
+    ensures count { OnOk result (stage.new.count ≤ setup.now.limits.exchanges_max) }
+    ensures asked { OnOk result (HasAsked (D.grammar dialect.now) stage.new.out) }
+    ensures err { OnErr result (stage.new ≡ stage.old) }
+{
+    let Plan {
+        next,
+        rows,
+        own: later,
+        sends,
+        masked,
+    } = plan_of(alloc, dialect, setup, own, told, stage)?;
+    let before = enter(stage, next);
+    match trouble_of(alloc, dialect, setup, stage) {
+        Ok(trouble) => Ok(Outcome {
+            rows,
+            own: later,
+            sends,
+            masked,
+            trouble,
+        }),
+        Err(refused) => {
+            let _next = enter(stage, before);
+            Err(refused)
+        }
+    }
 }

@@ -1,29 +1,26 @@
 ghost use Rattle.std.specs.Prelude.{◌≡◌, ◌≤◌, ◌<◌, ◌+◌, ◌++◌, [], ◌∷◌, List, ℕ, None, Some, true, OnOk, OnErr, IfOk, IfSome, false, is_some, is_none};
 ghost use Rattle.rd_base.specs.Limits.{AreLimits};
-ghost use Rattle.rd_base.specs.History.{Entry, is_well_formed, is_timer};
+ghost use Rattle.rd_base.specs.History.{Entry, is_well_formed};
 ghost use Rattle.rd_rules.specs.Exchange.{Rules};
 ghost use Rattle.rd_rules.specs.Sent.{final, exchanges, masked, agreed_rows};
 ghost use Rattle.rd_rules.specs.Wait.{wait, due_moment};
 ghost use Rattle.rd_rules.specs.Wanted.{wanted};
-ghost use Rattle.rd_rules.specs.Trouble.{or_else, full_log_at};
-ghost use Rattle.rd_core.specs.Faults.{fault_by};
 ghost use Rattle.rd_reading.specs.Seen.{rules_of};
-ghost use Rattle.rd_core.specs.OwnLists.{latest_of};
-ghost use Rattle.rd_core.specs.Clocks.{standing, entry_of};
-ghost use Rattle.rd_core.specs.Stages.{seen_stage};
-ghost use Rattle.rd_core.specs.Standing.{Seen, IsAt, Goes, Steps, Counts, SendsMore, late_at, next_reading, tally_after, open_len};
-ghost use Rattle.rd_core.specs.Kept.{IsKept, HasMore, is_oversized};
+ghost use Rattle.rd_core.specs.Clocks.{entry_of};
+ghost use Rattle.rd_core.specs.Standing.{Seen, IsAt, Steps, Counts, SendsMore, open_len};
+ghost use Rattle.rd_core.specs.Kept.{is_oversized};
 
 use crate::clock::Clock;
-use crate::faults::{fault, unsolicited};
-use crate::plan::{Before, Plan, plan_of};
+use crate::faults::unsolicited;
+use crate::plan::{Outcome, go_on};
 use crate::stage::Stage;
-use crate::trouble::{open_len, or_else};
-use crate::waits::{clock_after, due_at, full_log, late, which_at};
-use crate::wanted::words_next;
+use crate::step::{Move, take_step};
+use crate::trouble::open_len;
+use crate::waits::{due_at, which_at};
+use crate::wanted::{is_alone, words_next};
 use rd_base::{Ending, Happening, NoMemory, Rows, Sends, Side, What, Which, Words};
 use rd_dialect::Dialect;
-use rd_reading::{Setup, grow_front, start_front};
+use rd_reading::{Setup, grown_front, start_front};
 use rd_token_map::OwnRows;
 use std::alloc::Global;
 use std::marker::Model;
@@ -63,22 +60,22 @@ impl<D: Dialect> Session<D> {
         ensures at { IfOk result (λ s. IsAt (rules_of (D.grammar dialect) setup) s []) }
     {
         let front = start_front(alloc, &dialect, &setup)?;
-        let own = OwnRows::new(alloc);
-        let told = Rows::new(alloc);
-        let before = Before {
+        let mut stage = Stage {
             count: 0,
             bye: false,
-            was_out: false,
+            left: front,
+            out: None,
         };
-        let plan = plan_of(alloc, &dialect, &setup, before, &own, &told, front)?;
-        let Plan {
-            stage,
+        let own = OwnRows::new(alloc);
+        let told = Rows::new(alloc);
+        let outcome = go_on(alloc, &dialect, &setup, &own, &told, &mut stage)?;
+        let Outcome {
             rows: _,
             own: later,
-            trouble,
             sends: _,
             masked,
-        } = plan;
+            trouble,
+        } = outcome;
         Ok(Session {
             alloc,
             dialect,
@@ -190,7 +187,16 @@ impl<D: Dialect> Session<D> {
         if is_oversized(what) {
             return Ok(Words::new(self.alloc));
         }
-        match unsolicited(self.alloc, &self.dialect, &self.stage, what)? {
+        if is_alone(&self.stage, what) {
+            return Ok(Words::new(self.alloc));
+        }
+        let front = grown_front(self.alloc, &self.stage.left, what)?;
+        match unsolicited(
+            &self.dialect,
+            &self.stage.out,
+            front.answering.as_slice(),
+            what,
+        ) {
             Some(_) => Ok(Words::new(self.alloc)),
             None => words_next(
                 self.alloc,
@@ -198,7 +204,7 @@ impl<D: Dialect> Session<D> {
                 &self.setup,
                 &self.stage,
                 &self.own,
-                what,
+                &front,
             ),
         }
     }
@@ -212,38 +218,18 @@ impl<D: Dialect> Session<D> {
         ensures counts { OnOk result (Counts (rules_of (D.grammar self.old.dialect) self.old.setup) self.old.at.stage (entry_of happening.now told.now) self.old.tally self.new.tally) }
         ensures err { OnErr result (self.new ≡ self.old) }
     {
-        match unsolicited(self.alloc, &self.dialect, &self.stage, &happening.what)? {
-            Some(ending) => {
-                self.rows = Rows::new(self.alloc);
-                self.ending = Some(ending);
-                Ok(Sends::new(self.alloc))
-            }
-            None => self.proceed(happening, told),
-        }
-    }
-
-    fn proceed(&mut self, happening: &Happening, told: &Rows) -> Result<Sends, NoMemory>
-        requires live { self.old.ending ≡ None }
-        requires sized { is_oversized happening.now.what ≡ false }
-        ensures dialect { self.new.dialect ≡ self.old.dialect }
-        ensures setup { self.new.setup ≡ self.old.setup }
-        ensures goes { IfOk result (λ sends. Goes (rules_of (D.grammar self.old.dialect) self.old.setup) self.old.at (entry_of happening.now told.now) self.new.at self.new.ending sends) }
-        ensures counts { OnOk result (self.new.tally ≡ tally_after (rules_of (D.grammar self.old.dialect) self.old.setup) self.old.at.stage (next_reading (rules_of (D.grammar self.old.dialect) self.old.setup) self.old.at.stage (entry_of happening.now told.now)) self.old.tally) }
-        ensures err { OnErr result (self.new ≡ self.old) }
-    {
         let Move {
-            stage,
             rows,
             own,
             clock,
             ending,
             sends,
             masked,
-        } = move_of(
+        } = take_step(
             self.alloc,
             &self.dialect,
             &self.setup,
-            &self.stage,
+            &mut self.stage,
             &self.own,
             self.clock,
             self.masked,
@@ -253,86 +239,12 @@ impl<D: Dialect> Session<D> {
         if let Some(own) = own {
             self.own = own;
         }
-        self.stage = stage;
         self.clock = clock;
         self.masked = masked;
         self.rows = rows;
         self.ending = ending;
         Ok(sends)
     }
-}
-
-/// All that a step changes, worked out before it does.
-#[derive(Drop)]
-struct Move {
-    stage: Stage,
-    rows: Rows,
-    own: Option<OwnRows>,
-    clock: Clock,
-    ending: Option<Ending>,
-    sends: Sends,
-    masked: u64,
-}
-
-/// What a happening that withholds nothing does to a live session.
-fn move_of<D: Dialect>(
-    alloc: Global,
-    dialect: &D,
-    setup: &Setup,
-    stage: &Stage,
-    own: &OwnRows,
-    clock: Clock,
-    masked: u64,
-    happening: &Happening,
-    told: &Rows,
-) -> Result<Move, NoMemory>
-    requires kept { IsKept (D.grammar dialect.now) setup.now stage.now clock.entries masked None }
-    requires sized { is_oversized happening.now.what ≡ false }
-    ensures goes { IfOk result (λ m. Goes (rules_of (D.grammar dialect.now) setup.now) (standing stage.now own.now clock) (entry_of happening.now told.now) (standing m.stage (latest_of own.now m.own) m.clock) m.ending m.sends) }
-    ensures counts { IfOk result (λ m. record { masked = m.masked; rows = m.rows } ≡ tally_after (rules_of (D.grammar dialect.now) setup.now) (seen_stage stage.now own.now)
-        (next_reading (rules_of (D.grammar dialect.now) setup.now) (seen_stage stage.now own.now) (entry_of happening.now told.now)) (record { masked = masked; rows = [] })) }
-    ensures kept { IfOk result (λ m. IsKept (D.grammar dialect.now) setup.now m.stage m.clock.entries m.masked m.ending) }
-{
-    let what = &happening.what;
-    let front = grow_front(alloc, &stage.left, what)?;
-    let before = Before {
-        count: stage.count,
-        bye: stage.bye,
-        was_out: stage.out.is_some(),
-    };
-    let Plan {
-        stage: later,
-        rows,
-        own: learnt,
-        trouble,
-        sends,
-        masked: fresh,
-    } = plan_of(alloc, dialect, setup, before, own, told, front)?;
-    let clock = clock_after(setup.side, stage, clock, &later, happening.at);
-    let ending = ending_of(setup, what, &later, clock, trouble);
-    Ok(Move {
-        stage: later,
-        rows,
-        own: learnt,
-        clock,
-        ending,
-        sends,
-        masked: masked + fresh,
-    })
-}
-
-/// How a session has ended that stands there.
-fn ending_of(
-    setup: &Setup,
-    what: &What,
-    stage: &Stage,
-    clock: Clock,
-    trouble: Option<Ending>,
-) -> Option<Ending>
-    ensures { result ≡ or_else (or_else (fault_by setup.now.limits.copies what.now) (late_at setup.now.side setup.now.limits (is_timer what.now) (standing stage.now [] clock))) (or_else trouble (full_log_at clock.entries)) }
-{
-    let first = or_else(fault(&setup.limits, what), late(setup, what, stage, clock));
-    or_else(first, or_else(trouble, full_log(clock.entries)))
 }
 
 /// A piece has at most 16,384 bytes.

@@ -2,7 +2,8 @@ ghost use Rattle.std.specs.Prelude.{◌≡◌, ◌≤◌, ◌<◌, ◌+◌, ◌-
 ghost use Rattle.rd_base.specs.History.{is_timer};
 ghost use Rattle.rd_rules.specs.Wait as rule;
 ghost use Rattle.rd_rules.specs.Trouble.{full_log_at};
-ghost use Rattle.rd_core.specs.Standing.{wait_at, began_at, due_at, late_at};
+ghost use Rattle.rd_core.specs.Standing.{wait_at, due_at, late_at};
+ghost use Rattle.rd_core.specs.Awaited.{awaited_wait, began_since};
 ghost use Rattle.rd_core.specs.Stages.{seen_stage};
 ghost use Rattle.rd_core.specs.Clocks.{standing};
 
@@ -43,19 +44,42 @@ fn is_same_which(one: Which, other: Which) -> bool
     one == other
 }
 
-/// Whether a session waits for the same as before.
-fn waits_on(side: Side, before: &Stage, now: &Stage) -> bool
-    ensures { result ≡ rule.same_wait (wait_at side (seen_stage before.now [])) (wait_at side (seen_stage now.now [])) }
+/// What a session waited for before a step, and after how many exchanges.
+#[derive(Clone, Copy, Debug, PartialEq, Eq)]
+pub(crate) struct WaitedFor {
+    which: Which,
+    count: u32,
+}
+
+/// What a session that stands there waits for, and after how many exchanges.
+pub(crate) fn awaited(side: Side, stage: &Stage) -> WaitedFor
+    ensures { awaited_wait result ≡ wait_at side (seen_stage stage.now []) }
 {
-    is_same_which(which_at(side, before), which_at(side, now)) && before.count == now.count
+    WaitedFor {
+        which: which_at(side, stage),
+        count: stage.count,
+    }
+}
+
+/// Whether a session waits for the same as before.
+fn waits_on(side: Side, before: WaitedFor, now: &Stage) -> bool
+    ensures { result ≡ rule.same_wait (awaited_wait before) (wait_at side (seen_stage now.now [])) }
+{
+    is_same_which(before.which, which_at(side, now)) && before.count == now.count
 }
 
 /// The clock after one more entry, at this moment.
-pub(crate) fn clock_after(side: Side, before: &Stage, clock: Clock, now: &Stage, at: u64) -> Clock
+pub(crate) fn clock_after(
+    side: Side,
+    before: WaitedFor,
+    clock: Clock,
+    now: &Stage,
+    at: u64,
+) -> Clock
     requires { clock.entries < 1048576 }
     ensures entries { result.entries ≡ clock.entries + 1 }
     ensures moment { result.moment ≡ max clock.moment at }
-    ensures began { result.began ≡ began_at side (standing before.now [] clock) (seen_stage now.now []) (max clock.moment at) }
+    ensures began { result.began ≡ began_since (awaited_wait before) (wait_at side (seen_stage now.now [])) clock.began (max clock.moment at) }
 {
     let moment = clock.moment.max(at);
     let began = if waits_on(side, before, now) {

@@ -1,20 +1,21 @@
-ghost use Rattle.std.specs.Prelude.{◌≡◌, ◌≤◌, ◌<◌, ◌-◌, ◌&&◌, [], ◌∷◌, List, ℕ, None, false, length, take, drop, map, filter, fold, is_some, All, option_map, bytes_eq, IfOk, OnOk};
+ghost use Rattle.std.specs.Prelude.{◌≡◌, ◌≤◌, ◌<◌, ◌-◌, ◌&&◌, [], ◌∷◌, List, ℕ, None, true, false, length, take, drop, map, filter, fold, is_some, All, option_map, bytes_eq, IfOk, OnOk};
 ghost use Rattle.std.specs.List.{list_any, flat_map};
 ghost use Rattle.rd_base.specs.Swap.{is_row_word};
 ghost use Rattle.rd_base.specs.Limits.{AreLimits};
 ghost use Rattle.rd_rules.specs.Exchange as rule;
-ghost use Rattle.rd_rules.specs.Step.{grow_front_by, sent_before};
+ghost use Rattle.rd_rules.specs.Step.{sent_before};
 ghost use Rattle.rd_rules.specs.Wanted.{add_word, is_unknown, unknown_words, words_read};
 ghost use Rattle.rd_reading.specs.Whole.{IsAsked, IsDone};
 ghost use Rattle.rd_reading.specs.Seen.{seen_request, seen_exchange, seen_front, seen_reading, rules_of, rows_are};
-ghost use Rattle.rd_reading.specs.Room.{HasRoom};
+ghost use Rattle.rd_base.specs.History.{piece_of};
+ghost use Rattle.rd_core.specs.Alone.{IsAlone};
 ghost use Rattle.rd_core.specs.Stages.{HasAsked};
 
 use crate::own_lists::{after_rows, latest};
 use crate::stage::Stage;
-use rd_base::{NoMemory, Rows, What, Words, is_row_word};
+use rd_base::{Link, NoMemory, Rows, What, Words, is_row_word};
 use rd_dialect::Dialect;
-use rd_reading::{Reading, Request, Setup, first_bytes, grow_front, note_of, read_on};
+use rd_reading::{Front, Reading, Request, Setup, first_bytes, note_of, read_on};
 use rd_token_map::OwnRows;
 use std::alloc::Global;
 
@@ -142,24 +143,49 @@ fn words_in<D: Dialect>(
     Ok(words)
 }
 
-/// The words of the requests that a happening releases, which withholds nothing.
+/// The words of the requests that a happening releases, which withholds nothing. What is open has heard it.
 pub(crate) fn words_next<D: Dialect>(
     alloc: Global,
     dialect: &D,
     setup: &Setup,
     stage: &Stage,
     own: &OwnRows,
-    what: &What,
+    front: &Front,
 ) -> Result<Words, NoMemory>
     requires limits { AreLimits setup.now.limits }
     requires count { stage.now.count ≤ setup.now.limits.exchanges_max }
-    requires asking { All (HasRoom what.now) stage.now.left.asking.items }
-    requires answering { All (HasRoom what.now) stage.now.left.answering.items }
     ensures { IfOk result (λ words. words ≡ words_read (rules_of (D.grammar dialect.now) setup.now) own.now (is_some stage.now.out)
-        (rule.read (D.grammar dialect.now) setup.now.limits.mask (setup.now.limits.exchanges_max - stage.now.count) (grow_front_by what.now (seen_front stage.now.left)))) }
+        (rule.read (D.grammar dialect.now) setup.now.limits.mask (setup.now.limits.exchanges_max - stage.now.count) (seen_front front.now))) }
 {
-    let front = grow_front(alloc, &stage.left, what)?;
     let spare = setup.limits.exchanges_max - stage.count;
     let reading = read_on(alloc, dialect, setup, spare, front)?;
     words_in(alloc, dialect, setup, own, stage.out.is_some(), &reading)
+}
+
+/// Whether a happening has bytes of this link.
+fn is_heard(link: Link, what: &What) -> bool
+    ensures { result ≡ false → piece_of link.0 what.now ≡ [] }
+{
+    match what {
+        What::Piece(from, _) => link == *from,
+        _ => false,
+    }
+}
+
+/// Whether one link asks, of which the happening has no bytes, and none are open behind the request that is out. Then
+/// nothing more is released.
+pub(crate) fn is_alone(stage: &Stage, what: &What) -> bool
+    ensures { result ≡ true
+        → IsAlone (seen_front stage.now.left) (option_map seen_request stage.now.out) what.now }
+{
+    let Some(request) = &stage.out else {
+        return false;
+    };
+    let [one] = stage.left.asking.as_slice() else {
+        return false;
+    };
+    if is_heard(one.link(), what) {
+        return false;
+    }
+    one.bytes().len() <= first_bytes(request.units.as_slice()).len()
 }

@@ -6,3 +6,4 @@ pub mod FewMasks
 pub mod OneList
 pub mod InFront
 pub mod EqualUnits
+pub mod CutBack

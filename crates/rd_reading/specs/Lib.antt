@@ -3,3 +3,4 @@ pub mod Heard
 pub mod Whole
 pub mod Seen
 pub mod Alike
+pub mod Extents

@@ -1,5 +1,5 @@
 -- What the engine keeps, as the definitions see it.
-use Rattle.std.specs.Prelude.{◌≡◌, List, map, option_map}
+use Rattle.std.specs.Prelude.{◌≡◌, List, map, Option, option_map, unwrap_or}
 use Rattle.rd_dialect.specs.Grammar.{Grammar}
 use Rattle.rd_rules.specs.Exchange as rule
 use Rattle.rd_rules.specs.Given.{exchange_rows, ask_masked, replies_masked}
@@ -18,8 +18,12 @@ seen_exchange x = record { ask = seen_request x.request; replies = x.replies.uni
 abbrev pub seen_front : Front → rule.Front
 seen_front f = record { phase = f.phase; asking = f.asking.items; answering = f.answering.items }
 
+-- what is open: past what was read, else as before
+abbrev pub latest_front : Front → Option Front → Front
+latest_front front later = unwrap_or later front
+
 abbrev pub seen_reading : Reading → rule.Reading
-seen_reading r = record { done = map seen_exchange r.done.items; left = seen_front r.left; out = option_map seen_request r.out }
+seen_reading r = record { done = map seen_exchange r.done.items; left = seen_front (latest_front r.from.now r.left); out = option_map seen_request r.out }
 
 abbrev pub rules_of : Grammar → Setup → rule.Rules
 rules_of g setup = record { side = setup.side; grammar = g; limits = setup.limits }

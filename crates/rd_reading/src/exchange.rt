@@ -39,12 +39,13 @@ pub struct Front {
     ghost few_answer: { length answering.items ≤ 8 },
 }
 
-/// What was read of a front: the exchanges, what is open past them, the request that is out, and how many
-/// exchanges more might have been read.
+/// What was read of a front: the exchanges, what is open past them where there are any, the request that is out, and
+/// how many exchanges more might have been read.
 #[derive(Drop)]
-pub struct Reading {
+pub struct Reading<'a> {
+    pub from: &'a Front,
     pub done: Vec<DoneExchange>,
-    pub left: Front,
+    pub left: Option<Front>,
     pub out: Option<Request>,
     pub spare: u32,
 }

@@ -1,4 +1,4 @@
-ghost use Rattle.std.specs.Prelude.{◌≡◌, ◌≤◌, ◌<◌, ◌+◌, ◌-◌, ◌^◌, ◌++◌, [], ◌∷◌, List, ℕ, Some, None, true, false, length, map, take, All, MatchOption, option_map, IfSome, IfOk, OnOk};
+ghost use Rattle.std.specs.Prelude.{◌≡◌, ◌≤◌, ◌<◌, ◌+◌, ◌-◌, ◌^◌, ◌++◌, [], ◌∷◌, List, ℕ, Some, None, true, false, length, map, take, All, MatchOption, option_map, IfSome, IfOk, OnOk, is_some};
 ghost use Rattle.rd_base.specs.Limits.{AreMaskLimits};
 ghost use Rattle.rd_verdict.specs.LiesIn.{LiesIn};
 ghost use Rattle.rd_dialect.specs.Due.{IsDue, tokens_due};
@@ -74,6 +74,19 @@ pub(crate) struct WholeUnits {
     pub copies: Option<Copies>,
 }
 
+/// Whether the unit of each of these links is there.
+fn are_whole<D: Dialect>(dialect: &D, due: Due, opens: &[Open]) -> bool
+    ensures { result ≡ is_some (rule.units (D.grammar dialect.now) due opens.now) }
+{
+    for one in opens {
+        match scan_open(dialect, due, one) {
+            Scan::Whole(_) => {}
+            _ => return false,
+        }
+    }
+    true
+}
+
 /// The units that all of these links begin with. None where one of them isn't there.
 pub(crate) fn whole_units<D: Dialect>(
     alloc: Global,
@@ -85,6 +98,9 @@ pub(crate) fn whole_units<D: Dialect>(
     ensures units { IfOk result (λ found. option_map (λ w. w.units.items) found ≡ rule.units (D.grammar dialect.now) due opens.now) }
     ensures copies { IfOk result (λ found. IfSome found (λ w. AreJudged (rule.token_lists (D.grammar dialect.now) due w.units.items) w.copies)) }
 {
+    if !are_whole(dialect, due, opens) {
+        return Ok(None);
+    }
     let mut units = Vec::new(alloc);
     for one in opens {
         match scan_open(dialect, due, one) {

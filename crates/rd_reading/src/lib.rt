@@ -3,6 +3,7 @@
 
 mod exchange;
 mod fronts;
+mod growth;
 mod judging;
 mod opens;
 mod read;
@@ -11,9 +12,10 @@ mod start;
 mod unit;
 
 pub use exchange::{DoneExchange, Front, Reading, Replies, Request};
+pub use growth::{Extent, Extents, cut_front_back, grow_front};
 pub use judging::early_fault;
 pub use opens::{Open, past_units, scan_open};
-pub use read::{grow_front, note_of, read_on};
+pub use read::{grown_front, note_of, read_on};
 pub use setup::Setup;
 pub use start::start_front;
 pub use unit::{LinkUnit, first_bytes};

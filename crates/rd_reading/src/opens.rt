@@ -1,11 +1,13 @@
-ghost use Rattle.std.specs.Prelude.{◌≡◌, ◌≤◌, ◌<◌, ◌+◌, ◌++◌, [], ◌∷◌, List, ℕ, take, drop, map, length, true, false, All, IfOk, OnOk};
+ghost use Rattle.std.specs.Prelude.{◌≡◌, ◌≤◌, ◌<◌, ◌+◌, ◌++◌, [], ◌∷◌, List, ℕ, take, drop, map, length, true, false, All, IfOk, OnOk, OnErr};
 ghost use Rattle.rd_base.specs.declared.values.Scan.TheVariants.{Whole, More};
 ghost use Rattle.rd_base.specs.History.{piece_of, ends};
 ghost use Rattle.rd_dialect.specs.Due.{IsDue};
 ghost use Rattle.rd_rules.specs.Exchange as rule;
 ghost use Rattle.rd_rules.specs.Step.{grow_by};
 ghost use Rattle.rd_reading.specs.Room.{HasRoom, room};
+ghost use Rattle.rd_reading.specs.Extents.{extent_of, cut_back};
 
+use crate::growth::Extent;
 use crate::unit::{LinkUnit, first_len, others, push_unit};
 use rd_base::{Bytes, Link, NoMemory, Scan, What};
 use rd_dialect::{Dialect, Due, scan_due};
@@ -74,7 +76,36 @@ impl Open {
         })
     }
 
-    /// What is open once a happening is heard.
+    /// How much is open.
+    pub(crate) fn extent(&self) -> Extent
+        ensures { result ≡ extent_of self.now }
+    {
+        Extent {
+            len: self.bytes.len(),
+            is_ended: self.is_ended,
+        }
+    }
+
+    /// Hears a happening.
+    pub(crate) fn grow(&mut self, what: &What) -> Result<(), NoMemory>
+        requires { HasRoom what.now self.old }
+        ensures ok { OnOk result (self.new ≡ grow_by what.now self.old) }
+        ensures err { OnErr result (self.new ≡ self.old) }
+    {
+        self.bytes.push_slice(piece_of(self.link, what))?;
+        self.is_ended = self.is_ended || is_end_of(self.link, what);
+        Ok(())
+    }
+
+    /// Forgets what was heard since it had this extent.
+    pub(crate) fn cut_back(&mut self, extent: Extent)
+        ensures { self.new ≡ cut_back extent self.old }
+    {
+        self.bytes.truncate(extent.len);
+        self.is_ended = extent.is_ended;
+    }
+
+    /// A copy of what is open once a happening is heard.
     fn grown(&self, alloc: Global, what: &What) -> Result<Open, NoMemory>
         requires { HasRoom what.now self.now }
         ensures { IfOk result (λ o. o ≡ grow_by what.now self.now) }
@@ -162,8 +193,8 @@ pub fn past_units(alloc: Global, opens: &[Open], units: &[LinkUnit]) -> Result<V
     Ok(made)
 }
 
-/// What is open once a happening is heard.
-pub(crate) fn grow_opens(alloc: Global, opens: &[Open], what: &What) -> Result<Vec<Open>, NoMemory>
+/// A copy of what is open once a happening is heard.
+pub(crate) fn grown_opens(alloc: Global, opens: &[Open], what: &What) -> Result<Vec<Open>, NoMemory>
     requires { All (HasRoom what.now) opens.now }
     ensures { IfOk result (λ os. os.items ≡ map (grow_by what.now) opens.now) }
 {

@@ -5,11 +5,11 @@ ghost use Rattle.rd_rules.specs.Given.{exchange_rows, learns_on, replies_masked}
 ghost use Rattle.rd_rules.specs.Step.{grow_front_by};
 ghost use Rattle.rd_reading.specs.Room.{HasRoom};
 ghost use Rattle.rd_reading.specs.Whole.{IsAsked, IsAnswered, IsDone};
-ghost use Rattle.rd_reading.specs.Seen.{seen_request, seen_exchange, seen_front, seen_reading, rules_of, rows_are, IsMasked, AreMasked};
+ghost use Rattle.rd_reading.specs.Seen.{seen_request, seen_exchange, seen_front, seen_reading, latest_front, rules_of, rows_are, IsMasked, AreMasked};
 
 use crate::exchange::{DoneExchange, Front, Reading, Replies, Request};
 use crate::judging::{WholeUnits, agreement, rows_learnt, whole_units};
-use crate::opens::{Open, empty_units, grow_opens, past_units};
+use crate::opens::{Open, empty_units, grown_opens, past_units};
 use crate::setup::Setup;
 use crate::unit::first_bytes;
 use rd_base::{NoMemory, Note, Rows, Side, What};
@@ -148,16 +148,27 @@ fn push_exchange(done: &mut Vec<DoneExchange>, exchange: DoneExchange) -> Result
     }
 }
 
+/// What is open past what was read.
+fn latest<'a>(front: &'a Front, later: &'a Option<Front>) -> &'a Front
+    ensures { result.now ≡ latest_front front.now later.now }
+{
+    match later {
+        Some(left) => left,
+        None => front,
+    }
+}
+
 /// At most so many exchanges from this front on.
-pub fn read_on<D: Dialect>(
+pub fn read_on<'a, D: Dialect>(
     alloc: Global,
     dialect: &D,
     setup: &Setup,
     spare: u32,
-    front: Front,
-) -> Result<Reading, NoMemory>
+    front: &'a Front,
+) -> Result<Reading<'a>, NoMemory>
     requires { AreMaskLimits setup.now.limits.mask }
-    ensures reads { IfOk result (λ r. seen_reading r ≡ rule.read (D.grammar dialect.now) setup.now.limits.mask spare (seen_front front)) }
+    ensures from { IfOk result (λ r. r.from.now ≡ front.now) }
+    ensures reads { IfOk result (λ r. seen_reading r ≡ rule.read (D.grammar dialect.now) setup.now.limits.mask spare (seen_front front.now)) }
     ensures spare { IfOk result (λ r. length r.done.items + r.spare ≡ spare) }
     ensures done { IfOk result (λ r. All (λ x. IsDone (D.grammar dialect.now) (seen_exchange x)) r.done.items) }
     ensures rows { IfOk result (λ r. rows_are (rules_of (D.grammar dialect.now) setup.now) r.done.items) }
@@ -166,19 +177,22 @@ pub fn read_on<D: Dialect>(
     ensures out_masked { IfOk result (λ r. IfSome r.out (IsMasked (rules_of (D.grammar dialect.now) setup.now))) }
 {
     let mut done = Vec::new(alloc);
-    let mut left = front;
+    let mut left = None;
     let mut more = spare;
     while more > 0 {
-        let Some(request) = request_at(alloc, dialect, setup, &left)? else {
+        let now = latest(front, &left);
+        let Some(request) = request_at(alloc, dialect, setup, now)? else {
             return Ok(Reading {
+                from: front,
                 done,
                 left,
                 out: None,
                 spare: more,
             });
         };
-        let Some(replies) = replies_to(alloc, dialect, setup, &left, &request)? else {
+        let Some(replies) = replies_to(alloc, dialect, setup, now, &request)? else {
             return Ok(Reading {
+                from: front,
                 done,
                 left,
                 out: Some(request),
@@ -186,12 +200,13 @@ pub fn read_on<D: Dialect>(
             });
         };
         let exchange = DoneExchange { request, replies };
-        let next = after_exchange(alloc, dialect, &left, &exchange)?;
+        let next = after_exchange(alloc, dialect, now, &exchange)?;
         push_exchange(&mut done, exchange)?;
-        left = next;
+        left = Some(next);
         more -= 1;
     }
     Ok(Reading {
+        from: front,
         done,
         left,
         out: None,
@@ -199,14 +214,14 @@ pub fn read_on<D: Dialect>(
     })
 }
 
-/// What is open once a happening is heard.
-pub fn grow_front(alloc: Global, front: &Front, what: &What) -> Result<Front, NoMemory>
+/// A copy of what is open once a happening is heard.
+pub fn grown_front(alloc: Global, front: &Front, what: &What) -> Result<Front, NoMemory>
     requires asking { All (HasRoom what.now) front.now.asking.items }
     requires answering { All (HasRoom what.now) front.now.answering.items }
     ensures { IfOk result (λ f. seen_front f ≡ grow_front_by what.now (seen_front front.now)) }
 {
-    let asking = grow_opens(alloc, front.asking.as_slice(), what)?;
-    let answering = grow_opens(alloc, front.answering.as_slice(), what)?;
+    let asking = grown_opens(alloc, front.asking.as_slice(), what)?;
+    let answering = grown_opens(alloc, front.answering.as_slice(), what)?;
     Ok(Front {
         phase: front.phase,
         asking,

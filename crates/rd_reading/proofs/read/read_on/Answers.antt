@@ -10,19 +10,32 @@ use Rattle.rd_reading.specs.declared.exchange.DoneExchange.{DoneExchange}
 use Rattle.rd_reading.specs.declared.exchange.Request.{Request}
 use Rattle.rd_reading.specs.declared.exchange.Replies.{Replies}
 use Rattle.rd_reading.specs.Whole.{IsAsked, IsAnswered, IsDone}
-use Rattle.rd_reading.specs.Seen.{seen_request, seen_exchange, seen_front, rules_of, IsMasked, AreMasked}
-use Rattle.rd_reading.proofs.ReadSteps.{read_out, read_more, done_more, rows_more}
+use Rattle.rd_reading.specs.Seen.{seen_request, seen_exchange, seen_front, latest_front, rules_of, IsMasked, AreMasked}
+use Rattle.rd_reading.proofs.ReadSteps.{read_out, read_none, read_more, done_more, rows_more}
 use Rattle.rd_reading.proofs.read.read_on.Goals as goal
+
+pub returns-in_default-clause-reads : goal.returns-in_default-clause-reads
+returns-in_default-clause-reads g c =
+    let grammar = g.D.Dialect.grammar c.args.dialect.now in
+    let most = c.args.setup.now.limits.mask in
+    let left = seen_front (latest_front c.args.front.now c.loop-more.left) in
+    let now : seen_front c.latest-now.result.now ≡ left = ap seen_front c.latest-now.ensures in
+    let none : ask_at grammar most left ≡ None = ap (ask_at grammar most) (sym now) ∙ sym c.in_ok-request.ensures.asks ∙ ap (option_map seen_request) c.in_default.is in
+    sym (c.loop-more.invariant.reads ∙ ap (with_done (map seen_exchange c.loop-more.done.items)) (read_none grammar most left c.loop-more.more none)
+    ∙ ap (λ (xs : List rule.Exchange). record { done = xs; left = left; out = None }) (append-nil (map seen_exchange c.loop-more.done.items)))
 
 pub returns-in_default-2-clause-reads : goal.returns-in_default-2-clause-reads
 returns-in_default-2-clause-reads g c =
     let grammar = g.D.Dialect.grammar c.args.dialect.now in
     let most = c.args.setup.now.limits.mask in
-    let left = seen_front c.loop-more.left in
-    let asks : ask_at grammar most left ≡ Some (seen_request c.in-Some.request) = sym c.in_ok-request.ensures.asks ∙ ap (option_map seen_request) c.in-Some.is in
-    let none : replies_at grammar most left (seen_request c.in-Some.request) ≡ None = sym c.in_ok-replies.ensures.replies ∙ ap (option_map (λ (r : Replies). r.units.items)) c.in_default-2.is in
-    sym (c.loop-more.invariant.reads ∙ ap (with_done (map seen_exchange c.loop-more.done.items)) (read_out grammar most left (seen_request c.in-Some.request) asks c.loop-more.more (omega arith) none)
-    ∙ ap (λ (xs : List rule.Exchange). record { done = xs; left = left; out = Some (seen_request c.in-Some.request) }) (append-nil (map seen_exchange c.loop-more.done.items)))
+    let left = seen_front (latest_front c.args.front.now c.loop-more.left) in
+    let now : seen_front c.latest-now.result.now ≡ left = ap seen_front c.latest-now.ensures in
+    let ask = seen_request c.in-Some.request in
+    let asks : ask_at grammar most left ≡ Some ask = ap (ask_at grammar most) (sym now) ∙ sym c.in_ok-request.ensures.asks ∙ ap (option_map seen_request) c.in-Some.is in
+    let none : replies_at grammar most left ask ≡ None =
+    ap (λ f. replies_at grammar most f ask) (sym now) ∙ sym c.in_ok-replies.ensures.replies ∙ ap (option_map (λ (r : Replies). r.units.items)) c.in_default-2.is in
+    sym (c.loop-more.invariant.reads ∙ ap (with_done (map seen_exchange c.loop-more.done.items)) (read_out grammar most left ask asks c.loop-more.more (omega arith) none)
+    ∙ ap (λ (xs : List rule.Exchange). record { done = xs; left = left; out = Some ask }) (append-nil (map seen_exchange c.loop-more.done.items)))
 
 pub after_exchange-requires : goal.after_exchange-requires
 after_exchange-requires g c =
@@ -38,7 +51,7 @@ loop-more-preserved g c =
     let grammar = g.D.Dialect.grammar c.args.dialect.now in
     let rules = rules_of grammar c.args.setup.now in
     let most = c.args.setup.now.limits.mask in
-    let left = seen_front c.loop-more.left in
+    let left = seen_front c.latest-now.result.now in
     let ask = seen_request c.in-Some.request in
     let done = c.loop-more.done.items in
     let made = c.push_exchange.new.done.items in
@@ -55,6 +68,7 @@ loop-more-preserved g c =
     let answered_masked = subst (λ (o : Option Replies). IfSome o (λ r. r.masked ≡ replies_masked rules (record { ask = ask; replies = r.units.items }))) c.in-Some-2.is c.in_ok-replies.ensures.masked in
     record {
       reads = c.loop-more.invariant.reads
+          ∙ ap (λ f. with_done (map seen_exchange done) (read grammar most c.loop-more.more (seen_front f))) (sym c.latest-now.ensures)
           ∙ ap (with_done (map seen_exchange done)) (read_more grammar most left ask asks c.loop-more.more c.in-Some-2.replies.units.items (omega arith) replies)
           ∙ done_more done made x (read grammar most (c.loop-more.more - 1) (rule.after grammar left (seen_exchange x))) is
           ∙ ap (λ (f : rule.Front). with_done (map seen_exchange made) (read grammar most (c.loop-more.more - 1) f)) (sym c.in_ok-next.ensures);

@@ -17,20 +17,21 @@ invariant_of-result g c =
     let grammar = g.D.Dialect.grammar c.args.dialect in
     let rules = rules_of grammar c.args.setup in
     let limits = c.args.setup.limits in
-    let plan = c.in_ok-plan.plan in
+    let outcome = c.in_ok-outcome.outcome in
+    let stage = c.go_on.new.stage in
     let spare = limits.exchanges_max - 0 in
-    let left : seen_front plan.stage.left ≡ (rule.read grammar limits.mask spare (seen_front c.in_ok-front.front)).left = ap (λ (n : Now). n.left) c.in_ok-plan.ensures.stage in
-    let out : option_map seen_request plan.stage.out ≡ (rule.read grammar limits.mask spare (seen_front c.in_ok-front.front)).out = ap (λ (n : Now). n.out) c.in_ok-plan.ensures.stage in
+    let left : seen_front stage.left ≡ (rule.read grammar limits.mask spare (seen_front c.in_ok-front.front)).left = ap (λ (n : Now). n.left) c.in_ok-outcome.ensures.stage in
+    let out : option_map seen_request stage.out ≡ (rule.read grammar limits.mask spare (seen_front c.in_ok-front.front)).out = ap (λ (n : Now). n.out) c.in_ok-outcome.ensures.stage in
     record {
       limits = c.requires.limits;
-      count = c.in_ok-plan.ensures.count;
-      asked = c.in_ok-plan.ensures.asked;
-      out = is_out_after grammar c.args.setup plan.stage spare (seen_front c.in_ok-front.front) left out;
-      masked = omega (arith, c.in_ok-plan.ensures.few_masked);
-      more = λ none. has_more rules c.args.setup plan.stage 0 None plan.trouble plan.trouble refl refl
+      count = c.in_ok-outcome.ensures.count;
+      asked = c.in_ok-outcome.ensures.asked;
+      out = is_out_after grammar c.args.setup stage spare (seen_front c.in_ok-front.front) left out;
+      masked = omega (arith, c.in_ok-outcome.ensures.few_masked);
+      more = λ none. has_more rules c.args.setup stage 0 None outcome.trouble outcome.trouble refl refl
           (λ ask is. short_out grammar limits.mask (limits.unit_max + 16384) spare (rule.start_front rules []) ask (start_fits rules (limits.unit_max + 16384))
           (ap (λ f. (rule.read grammar limits.mask spare f).out) (sym c.in_ok-front.ensures) ∙ sym out ∙ is))
-          c.in_ok-plan.ensures.trouble (sym (or_none plan.trouble)) (omega arith) none;
+          c.in_ok-outcome.ensures.trouble (sym (or_none outcome.trouble)) (omega arith) none;
     }
 
 pub returns-clause-at : goal.returns-clause-at
@@ -38,14 +39,15 @@ returns-clause-at g c =
     let grammar = g.D.Dialect.grammar c.args.dialect in
     let rules = rules_of grammar c.args.setup in
     let most = c.args.setup.limits in
-    let plan = c.in_ok-plan.plan in
+    let outcome = c.in_ok-outcome.outcome in
+    let stage = c.go_on.new.stage in
     let none : most.exchanges_max - 0 ≡ most.exchanges_max = omega arith in
-    start_at rules (record { dialect = c.args.dialect; setup = c.args.setup; at = standing plan.stage c.unwrap_or.result (record { entries = 0; moment = 0; began = 0 }); tally = record { masked = plan.masked; rows = c.new.result }; ending = plan.trouble })
-    (ap (seen_stage plan.stage) c.unwrap_or.ensures
-    ∙ c.in_ok-plan.ensures.stage
+    start_at rules (record { dialect = c.args.dialect; setup = c.args.setup; at = standing stage c.unwrap_or.result (record { entries = 0; moment = 0; began = 0 }); tally = record { masked = outcome.masked; rows = c.new.result }; ending = outcome.trouble })
+    (ap (seen_stage stage) c.unwrap_or.ensures
+    ∙ c.in_ok-outcome.ensures.stage
     ∙ ap₂ (λ o f. now_from rules 0 false o (rule.read grammar most.mask f (seen_front c.in_ok-front.front))) c.new-own.ensures none
     ∙ ap (λ f. now_from rules 0 false [] (rule.read grammar most.mask most.exchanges_max f)) c.in_ok-front.ensures
     ∙ first_stage rules (rule.reading rules []))
     refl refl refl
-    (c.in_ok-plan.ensures.masked ∙ ap₂ (λ (n : ℕ) (f : rule.Front). masked_now c.args.setup.side rules false (rule.read grammar most.mask n f)) none c.in_ok-front.ensures ∙ masked_first c.args.setup.side rules (rule.reading rules []))
-    c.new.ensures c.in_ok-plan.ensures.trouble
+    (c.in_ok-outcome.ensures.masked ∙ ap₂ (λ (n : ℕ) (f : rule.Front). masked_now c.args.setup.side rules false (rule.read grammar most.mask n f)) none c.in_ok-front.ensures ∙ masked_first c.args.setup.side rules (rule.reading rules []))
+    c.new.ensures c.in_ok-outcome.ensures.trouble
