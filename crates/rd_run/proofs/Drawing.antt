@@ -19,7 +19,7 @@ use Rattle.rd_turn.specs.declared.log.Act.{Act}
 use Rattle.rd_turn.specs.declared.log.Act.TheVariants as act
 use Rattle.rd_turn.specs.Drawn.{heard_of, first_heard, what_of, takes, left_by, entry_by, draw}
 use Rattle.rd_turn.specs.Turns.{Turn, Did, Took, Looked, Stopped, stamp, entry_at, step_of, failure, told_in, told_of, turn_entries, turn_step, history_of, act_of, logged, taken_by, items_of, IsInTime, AreTimely, IsAmong, AreAmong}
-use Rattle.rd_turn.proofs.FailedWrites.{any_snoc, or_false}
+use Rattle.rd_rules.proofs.FailedWrites.{any_snoc, or_false}
 
 -- ---- of one link
 

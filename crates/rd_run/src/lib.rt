@@ -11,6 +11,3 @@ pub use items::{Items, LeftOver};
 pub use log::Log;
 pub use rd_turn::{Act, Entries, LogEntry};
 pub use run::{Report, Run, run_in, run_out, run_unmade};
-
-#[cfg(test)]
-mod tests;

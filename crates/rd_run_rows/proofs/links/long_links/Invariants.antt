@@ -1,6 +1,6 @@
 use Rattle.std.proofs.Common.{◌≡◌, All, vec_len, false}
 use Rattle.rd_base.specs.MemSink.{sink_tells}
-use Rattle.rd_run.proofs.tests.links.Given as goal
+use Rattle.rd_run_rows.proofs.links.long_links.Given as goal
 
 abbrev pub invariant-loop-link : goal.invariant-loop-link
 invariant-loop-link g l =

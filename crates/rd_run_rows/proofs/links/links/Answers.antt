@@ -1,7 +1,7 @@
 use Rattle.std.proofs.Common.{◌≡◌, [], ◌∷◌, ◌++◌, false, arith}
 use Rattle.std.proofs.lemmas.List.Elements.{All-push, All-same}
 use Rattle.rd_base.specs.MemSink.{MemSinkView}
-use Rattle.rd_run.proofs.tests.links.Goals as goal
+use Rattle.rd_run_rows.proofs.links.links.Goals as goal
 
 pub loop-link-preserved : goal.loop-link-preserved
 loop-link-preserved g c =
