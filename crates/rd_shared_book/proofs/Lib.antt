@@ -1,0 +1,5 @@
+pub mod Keys
+pub mod Appended
+pub mod Counting
+pub mod Learning
+pub mod Telling
