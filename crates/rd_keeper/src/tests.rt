@@ -1,7 +1,9 @@
 ghost use Rattle.std.specs.Prelude.{◌≡◌, ◌≤◌, ◌^◌, ◌-◌};
 
+use crate::table::{find_note, make_tables};
 use crate::{KeepFail, Keeper, MemKeeper, Put, SqlKeeper};
 use rd_base::SessionNote;
+use sqlite::{Connection, MemStore};
 use std::fs;
 use std::rt::HostRuntime;
 
@@ -76,60 +78,59 @@ fn pages_rise<K: Keeper>(keeper: &mut K) -> bool {
         && page(keeper, u64::MAX, 1) == Ok((0, 0, 0))
 }
 
-#[test]
-fn keeps_in_memory(rt: HostRuntime) {
-    let alloc = rt.alloc();
-    let mut keeper = MemKeeper::new(alloc, Vec::new(alloc));
-    assert!(rt; keeps_the_first(&mut keeper));
-    assert!(rt; puts_two_more(&mut keeper));
-    assert!(rt; pages_rise(&mut keeper));
-    assert_eq!(rt; keeper.faults(), 0);
+/// All rows, over a keeper without notes.
+fn keeps_all<K: Keeper>(keeper: &mut K) -> bool {
+    keeps_the_first(keeper) && puts_two_more(keeper) && pages_rise(keeper)
 }
 
 #[test]
-fn keeps_in_a_table(rt: HostRuntime) {
-    let Ok(mut keeper) = SqlKeeper::in_memory(rt.alloc()) else {
+fn keeps_over_both_keepers(rt: HostRuntime) {
+    let alloc = rt.alloc();
+    let Ok(mut table) = SqlKeeper::in_memory(alloc) else {
         panic!(rt; "no keeper");
     };
-    assert!(rt; keeps_the_first(&mut keeper));
-    assert!(rt; puts_two_more(&mut keeper));
-    assert!(rt; pages_rise(&mut keeper));
-    assert_eq!(rt; keeper.faults(), 0);
+    let mut memory = MemKeeper::new(alloc, Vec::new(alloc));
+    assert!(rt; keeps_all(&mut memory) && keeps_all(&mut table));
+    assert!(rt; memory.faults() == 0 && table.faults() == 0);
 }
 
+/// Every call of a keeper that fails answers Failed.
+fn fails_each_call<K: Keeper>(keeper: &mut K) -> bool {
+    put(keeper, 1, 0, 0) == Err(KeepFail::Failed)
+        && keeper.one(1) == Err(KeepFail::Failed)
+        && page(keeper, 0, 1) == Err(KeepFail::Failed)
+        && keeper.greatest() == Err(KeepFail::Failed)
+}
+
+/// A call fails where the list has its number, and changes nothing.
 #[test]
 fn fails_where_its_list_says(rt: HostRuntime) {
     let alloc = rt.alloc();
-    let Ok(failing) = Vec::from_slice(alloc, &[1, 2]) else {
+    let Ok(failing) = Vec::from_slice(alloc, &[0, 1, 2, 3]) else {
         panic!(rt; "no list");
     };
     let mut keeper = MemKeeper::new(alloc, failing);
-    assert_eq!(rt; put(&mut keeper, 7, 2, 0), Ok(Put::Fresh));
-    assert_eq!(rt; put(&mut keeper, 8, 2, 0), Err(KeepFail::Failed));
-    assert_eq!(rt; keeper.one(7), Err(KeepFail::Failed));
-    assert_eq!(rt; keeper.greatest(), Ok(Some(7)));
-    assert_eq!(rt; keeper.faults(), 2);
+    assert!(rt; fails_each_call(&mut keeper));
+    assert_eq!(rt; keeper.greatest(), Ok(None));
+    assert_eq!(rt; keeper.faults(), 4);
 }
 
-/// A file is kept from one opening to the next, and no second keeper opens it meanwhile.
+/// Files that are no stores of notes, or that can't be opened.
 #[test]
 fn keeps_in_a_file(rt: HostRuntime) {
-    remove_file(&rt);
+    remove_files(&rt, "notes_test.db", "notes_test.db-wal");
     assert!(rt; puts_into_a_file(&rt, "notes_test.db"));
-    let Ok(mut keeper) = SqlKeeper::open(&rt, rt.alloc(), "notes_test.db") else {
-        panic!(rt; "no keeper");
-    };
-    assert_eq!(rt; put(&mut keeper, 7, 9, 0), Ok(Put::Repeat));
-    assert_eq!(rt; keeper.one(7), Ok(Some(session_note(7, 2, 1))));
-    assert!(rt; is_refused(&rt, "notes_test.db"));
+    assert!(rt; reopens(&rt, "notes_test.db"));
+    remove_files(&rt, "notes_test.db", "notes_test.db-wal");
     assert!(rt; is_refused(&rt, "no_such_folder/notes.db"));
-    remove_file(&rt);
+    assert!(rt; leaves_a_text_file(&rt, "text_test.db", "no database"));
+    remove_files(&rt, "text_test.db", "text_test.db-wal");
 }
 
 /// Removes the file and its log, where an earlier run left them.
-fn remove_file(rt: &HostRuntime) {
-    let _notes = fs::remove_file(rt, "notes_test.db");
-    let _log = fs::remove_file(rt, "notes_test.db-wal");
+fn remove_files(rt: &HostRuntime, name: &str, log: &str) {
+    let _notes = fs::remove_file(rt, name);
+    let _log = fs::remove_file(rt, log);
 }
 
 fn puts_into_a_file(rt: &HostRuntime, name: &str) -> bool {
@@ -139,16 +140,77 @@ fn puts_into_a_file(rt: &HostRuntime, name: &str) -> bool {
     }
 }
 
-/// Each call of a store that can't be opened fails.
-fn is_refused(rt: &HostRuntime, name: &str) -> bool {
+/// The note is there at the next opening, and no second keeper opens the file meanwhile.
+fn reopens(rt: &HostRuntime, name: &str) -> bool {
     match SqlKeeper::open(rt, rt.alloc(), name) {
         Ok(mut keeper) => {
-            put(&mut keeper, 1, 0, 0) == Err(KeepFail::Failed)
-                && keeper.one(1) == Err(KeepFail::Failed)
-                && page(&mut keeper, 0, 1) == Err(KeepFail::Failed)
-                && keeper.greatest() == Err(KeepFail::Failed)
-                && keeper.faults() == 4
+            put(&mut keeper, 7, 9, 0) == Ok(Put::Repeat)
+                && keeper.one(7) == Ok(Some(session_note(7, 2, 1)))
+                && is_refused(rt, name)
         }
         Err(_) => false,
     }
+}
+
+/// Each call of a store that can't be opened fails.
+fn is_refused(rt: &HostRuntime, name: &str) -> bool {
+    match SqlKeeper::open(rt, rt.alloc(), name) {
+        Ok(mut keeper) => fails_each_call(&mut keeper) && keeper.faults() == 4,
+        Err(_) => false,
+    }
+}
+
+/// A text file is refused at each call, and left as it was.
+fn leaves_a_text_file(rt: &HostRuntime, name: &str, text: &str) -> bool {
+    fs::write(rt, name, text).is_ok() && is_refused(rt, name) && holds(rt, name, text)
+}
+
+fn holds(rt: &HostRuntime, name: &str, text: &str) -> bool {
+    match fs::read_to_string(rt, name) {
+        Ok(read) => read.as_str() == text,
+        Err(_) => false,
+    }
+}
+
+fn older_sessions() -> &'static str {
+    "CREATE TABLE sessions (id INTEGER PRIMARY KEY NOT NULL, \
+side INTEGER NOT NULL, dialect INTEGER NOT NULL, began INTEGER NOT NULL, ended INTEGER NOT NULL, \
+events INTEGER NOT NULL, exchanges INTEGER NOT NULL, masked INTEGER NOT NULL, \
+code INTEGER NOT NULL, link INTEGER NOT NULL, exchange INTEGER NOT NULL, \
+place INTEGER NOT NULL, detail INTEGER NOT NULL)"
+}
+
+fn older_note() -> &'static str {
+    "INSERT INTO sessions VALUES (7, 1, 2, 5, 9223372036854775807, 4294967295, 1, 2, 15, 8, 3, 4, 101)"
+}
+
+fn other_sessions() -> &'static str {
+    "CREATE TABLE sessions (id INTEGER PRIMARY KEY, name TEXT)"
+}
+
+/// A store without a table of drops is read with none, and gets the table.
+fn reads_an_older_store(conn: &mut Connection<MemStore>) -> bool {
+    conn.execute(older_sessions(), &[]).is_ok()
+        && conn.execute(older_note(), &[]).is_ok()
+        && make_tables(conn).is_ok()
+        && find_note(conn, 7) == Ok(Some(session_note(7, 2, 0)))
+        && conn.prepare("SELECT id, copy FROM drops").is_ok()
+}
+
+/// A table of another make is refused, and no table is made beside it.
+fn refuses_another_make(conn: &mut Connection<MemStore>) -> bool {
+    conn.execute(other_sessions(), &[]).is_ok()
+        && make_tables(conn).is_err()
+        && conn.prepare("SELECT * FROM drops").is_err()
+}
+
+#[test]
+fn opens_stores_of_other_makes(rt: HostRuntime) {
+    let (Ok(mut older), Ok(mut other)) = (
+        Connection::open_in_memory(rt.alloc()),
+        Connection::open_in_memory(rt.alloc()),
+    ) else {
+        panic!(rt; "no stores");
+    };
+    assert!(rt; reads_an_older_store(&mut older) && refuses_another_make(&mut other));
 }

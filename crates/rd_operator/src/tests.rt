@@ -111,20 +111,19 @@ fn reply(alloc: Global, first: &str, allow: &str, body: &str) -> Result<String, 
     )
 }
 
-/// Whether a path gets a refusal of this status, or a page with this body.
+/// Whether a path gets this status and body.
 fn shows<Y: Keeper>(
     alloc: Global,
     board: &Board,
     keeper: &mut Y,
     path: &str,
     status: u16,
-    first: &str,
     body: &str,
 ) -> bool {
     let Ok(request) = format!(in alloc; "GET {path} HTTP/1.1\r\nHost: h\r\n\r\n") else {
         return false;
     };
-    match reply(alloc, first, "", body) {
+    match reply(alloc, first_line(status), "", body) {
         Ok(text) => gets(
             alloc,
             board,
@@ -137,175 +136,126 @@ fn shows<Y: Keeper>(
     }
 }
 
-const LIVE: &[u8] = b"HTTP/1.1 200 OK\r\nContent-Type: application/json\r\nContent-Length: 10\r\n\
-Connection: close\r\n\r\n{\"live\":0}";
+/// The status and its phrase, as a first line has them.
+fn first_line(status: u16) -> &'static str {
+    match status {
+        200 => "200 OK",
+        400 => "400 Bad Request",
+        404 => "404 Not Found",
+        431 => "431 Request Header Fields Too Large",
+        _ => "503 Service Unavailable",
+    }
+}
 
-const NOT_ALLOWED: &[u8] = b"HTTP/1.1 405 Method Not Allowed\r\nContent-Type: application/json\r\n\
-Content-Length: 13\r\nAllow: GET\r\nConnection: close\r\n\r\n{\"error\":405}";
+fn error_body(status: u16) -> &'static str {
+    match status {
+        400 => "{\"error\":400}",
+        404 => "{\"error\":404}",
+        431 => "{\"error\":431}",
+        _ => "{\"error\":503}",
+    }
+}
 
-const NOT_FOUND: &str = "404 Not Found";
+/// Whether these bytes get a refusal of this status.
+fn refuses<Y: Keeper>(
+    alloc: Global,
+    board: &Board,
+    keeper: &mut Y,
+    request: &[u8],
+    status: u16,
+) -> bool {
+    match reply(alloc, first_line(status), "", error_body(status)) {
+        Ok(text) => gets(alloc, board, keeper, request, status, text.as_bytes()),
+        Err(_) => false,
+    }
+}
 
-const NOT_FOUND_BODY: &str = "{\"error\":404}";
+/// Whether a path gets a refusal of this status.
+fn lacks<Y: Keeper>(alloc: Global, board: &Board, keeper: &mut Y, path: &str, status: u16) -> bool {
+    shows(alloc, board, keeper, path, status, error_body(status))
+}
 
-const BAD_BODY: &str = "{\"error\":400}";
+/// A request, and its reply byte for byte.
+fn live_request() -> &'static [u8] {
+    b"GET /live HTTP/1.1\r\nHost: h\r\n\r\n"
+}
 
-const BAD: &str = "400 Bad Request";
+fn live_reply() -> &'static [u8] {
+    b"HTTP/1.1 200 OK\r\nContent-Type: application/json\r\nContent-Length: 10\r\n\
+Connection: close\r\n\r\n{\"live\":0}"
+}
 
-const NOTE_1: &str = "{\"began\":5,\"code\":15,\"detail\":101,\"dialect\":2,\"dropped\":4,\
+fn posted_request() -> &'static [u8] {
+    b"POST /live HTTP/1.1\r\nHost: h\r\n\r\n"
+}
+
+fn not_allowed_reply() -> &'static [u8] {
+    b"HTTP/1.1 405 Method Not Allowed\r\nContent-Type: application/json\r\n\
+Content-Length: 13\r\nAllow: GET\r\nConnection: close\r\n\r\n{\"error\":405}"
+}
+
+fn empty_page() -> &'static str {
+    "{\"sessions\":[]}"
+}
+
+fn page_of_one() -> &'static str {
+    "{\"sessions\":[{\"began\":5,\"code\":15,\"detail\":101,\"dialect\":2,\"dropped\":4,\
 \"ended\":9223372036854775807,\"events\":4294967295,\"exchange\":6,\"exchanges\":2,\"id\":1,\
-\"link\":8,\"masked\":2,\"place\":7,\"side\":1}";
+\"link\":8,\"masked\":2,\"place\":7,\"side\":1}]}"
+}
+
+fn note_1() -> &'static str {
+    "{\"began\":5,\"code\":15,\"detail\":101,\"dialect\":2,\"dropped\":4,\
+\"ended\":9223372036854775807,\"events\":4294967295,\"exchange\":6,\"exchanges\":2,\"id\":1,\
+\"link\":8,\"masked\":2,\"place\":7,\"side\":1}"
+}
 
 /// The requests on an empty board.
 fn answers_requests<Y: Keeper>(alloc: Global, board: &Board, keeper: &mut Y) -> bool {
-    gets(
-        alloc,
-        board,
-        keeper,
-        b"GET /live HTTP/1.1\r\nHost: h\r\n\r\n",
-        200,
-        LIVE,
-    ) && gets(
-        alloc,
-        board,
-        keeper,
-        b"POST /live HTTP/1.1\r\nHost: h\r\n\r\n",
-        405,
-        NOT_ALLOWED,
-    ) && shows(
-        alloc,
-        board,
-        keeper,
-        "/live?x=/1",
-        200,
-        "200 OK",
-        "{\"live\":0}",
-    ) && shows(
-        alloc,
-        board,
-        keeper,
-        "/nothing",
-        404,
-        NOT_FOUND,
-        NOT_FOUND_BODY,
-    ) && shows(alloc, board, keeper, "/sessions/x", 400, BAD, BAD_BODY)
-        && shows(
+    gets(alloc, board, keeper, live_request(), 200, live_reply())
+        && gets(
             alloc,
             board,
             keeper,
-            "/sessions/9223372036854775808",
-            400,
-            BAD,
-            BAD_BODY,
+            posted_request(),
+            405,
+            not_allowed_reply(),
         )
-        && shows(
-            alloc,
-            board,
-            keeper,
-            "/sessions/1",
-            404,
-            NOT_FOUND,
-            NOT_FOUND_BODY,
-        )
-        && shows(
-            alloc,
-            board,
-            keeper,
-            "/sessions/1/2",
-            404,
-            NOT_FOUND,
-            NOT_FOUND_BODY,
-        )
-        && shows(
-            alloc,
-            board,
-            keeper,
-            "/sessions",
-            200,
-            "200 OK",
-            "{\"sessions\":[]}",
-        )
+        && shows(alloc, board, keeper, "/live?x=/1", 200, "{\"live\":0}")
+        && shows(alloc, board, keeper, "/sessions", 200, empty_page())
+        && lacks(alloc, board, keeper, "/nothing", 404)
+        && lacks(alloc, board, keeper, "/sessions/x", 400)
+        && lacks(alloc, board, keeper, "/sessions/9223372036854775808", 400)
+        && lacks(alloc, board, keeper, "/sessions/1", 404)
+        && lacks(alloc, board, keeper, "/sessions/1/2", 404)
 }
 
-/// Pages of kept notes, the page from an id on among them.
+/// Pages of kept notes, the page from an id on among them, and the sums of a board with that note.
 fn shows_notes<Y: Keeper>(alloc: Global, board: &Board, keeper: &mut Y) -> bool {
-    let (Ok(all), Ok(none)) = (
-        format!(in alloc; "{{\"sessions\":[{NOTE_1}]}}"),
-        format!(in alloc; "{{\"sessions\":[]}}"),
-    ) else {
-        return false;
-    };
     keeper.put(&noted(1)).is_ok()
-        && shows(
-            alloc,
-            board,
-            keeper,
-            "/sessions",
-            200,
-            "200 OK",
-            all.as_str(),
-        )
+        && shows(alloc, board, keeper, "/sessions", 200, page_of_one())
         && shows(
             alloc,
             board,
             keeper,
             "/sessions/from/01",
             200,
-            "200 OK",
-            all.as_str(),
+            page_of_one(),
         )
-        && shows(
-            alloc,
-            board,
-            keeper,
-            "/sessions/from/2",
-            200,
-            "200 OK",
-            none.as_str(),
-        )
-        && shows(alloc, board, keeper, "/sessions/1", 200, "200 OK", NOTE_1)
-        && shows(
-            alloc,
-            board,
-            keeper,
-            "/sessions/2",
-            404,
-            NOT_FOUND,
-            NOT_FOUND_BODY,
-        )
+        && shows(alloc, board, keeper, "/sessions/from/2", 200, empty_page())
+        && shows(alloc, board, keeper, "/sessions/1", 200, note_1())
+        && lacks(alloc, board, keeper, "/sessions/2", 404)
+        && shows_totals(alloc, keeper)
 }
 
-#[test]
-fn answers_over_a_keeper_in_memory(rt: HostRuntime) {
-    let alloc = rt.alloc();
-    let Ok(board) = Board::make(alloc, 0) else {
-        panic!(rt; "no board");
+fn shows_totals<Y: Keeper>(alloc: Global, keeper: &mut Y) -> bool {
+    let Ok(mut board) = Board::make(alloc, 0) else {
+        return false;
     };
-    let mut keeper = MemKeeper::new(alloc, Vec::new(alloc));
-    assert!(rt; answers_requests(alloc, &board, &mut keeper));
-    assert!(rt; shows_notes(alloc, &board, &mut keeper));
+    board.began();
+    let body = "{\"exchanges\":2,\"masked\":2,\"sessions\":1,\"unkept\":0}";
+    board.note(&noted(1)) && shows(alloc, &board, keeper, "/totals", 200, body)
 }
-
-#[test]
-fn answers_over_a_table(rt: HostRuntime) {
-    let alloc = rt.alloc();
-    let Ok(board) = Board::make(alloc, 0) else {
-        panic!(rt; "no board");
-    };
-    let Ok(mut keeper) = SqlKeeper::in_memory(alloc) else {
-        panic!(rt; "no keeper");
-    };
-    assert!(rt; answers_requests(alloc, &board, &mut keeper));
-    assert!(rt; shows_notes(alloc, &board, &mut keeper));
-}
-
-const TOO_LARGE: &[u8] = b"HTTP/1.1 431 Request Header Fields Too Large\r\n\
-Content-Type: application/json\r\nContent-Length: 13\r\nConnection: close\r\n\r\n{\"error\":431}";
-
-const BAD_REQUEST: &[u8] = b"HTTP/1.1 400 Bad Request\r\nContent-Type: application/json\r\n\
-Content-Length: 13\r\nConnection: close\r\n\r\n{\"error\":400}";
-
-const UNAVAILABLE: &[u8] = b"HTTP/1.1 503 Service Unavailable\r\nContent-Type: application/json\r\n\
-Content-Length: 13\r\nConnection: close\r\n\r\n{\"error\":503}";
 
 /// A target without an end, of 65,536 bytes with its method.
 fn long_request(alloc: Global) -> Result<Vec<u8>, NoMemory> {
@@ -316,117 +266,129 @@ fn long_request(alloc: Global) -> Result<Vec<u8>, NoMemory> {
     Ok(long)
 }
 
-/// A head that is too long, bytes that are no head, one that ends early, and a keeper that fails.
-#[test]
-fn refuses_other_requests(rt: HostRuntime) {
-    let alloc = rt.alloc();
-    let (Ok(board), Ok(failing), Ok(long)) = (
-        Board::make(alloc, 0),
-        Vec::from_slice(alloc, &[0]),
-        long_request(alloc),
-    ) else {
-        panic!(rt; "no memory");
+/// A head that is too long, bytes that are no head, and one that ends early.
+fn refuses_heads<Y: Keeper>(alloc: Global, board: &Board, keeper: &mut Y) -> bool {
+    let Ok(long) = long_request(alloc) else {
+        return false;
     };
-    let mut keeper = MemKeeper::new(alloc, failing);
-    assert!(rt; gets(alloc, &board, &mut keeper, long.as_slice(), 431, TOO_LARGE));
-    assert!(rt;
-        gets(
-            alloc,
-            &board,
-            &mut keeper,
-            b"GET live\x00",
-            400,
-            BAD_REQUEST
-        )
-    );
-    assert!(rt;
-        gets(
-            alloc,
-            &board,
-            &mut keeper,
-            b"GET /live HTTP/1.1\r\n",
-            400,
-            BAD_REQUEST
-        )
-    );
-    let sessions = b"GET /sessions HTTP/1.1\r\n\r\n";
-    assert!(rt; gets(alloc, &board, &mut keeper, sessions, 503, UNAVAILABLE));
-    assert_eq!(rt; keeper.faults(), 1);
+    refuses(alloc, board, keeper, long.as_slice(), 431)
+        && refuses(alloc, board, keeper, b"GET live\x00", 400)
+        && refuses(alloc, board, keeper, b"GET /live HTTP/1.1\r\n", 400)
 }
 
 /// Whether this ends so, with so many bytes written, and the sink closed.
-fn ends(
+fn ends<Y: Keeper>(
     alloc: Global,
     board: &Board,
+    keeper: &mut Y,
     request: &[u8],
     reads: Vec<u64>,
     pushes: Vec<PushFault>,
     end: OperatorEnd,
     written: usize,
 ) -> bool {
-    let mut keeper = MemKeeper::new(alloc, Vec::new(alloc));
-    match ask(alloc, board, &mut keeper, request, reads, pushes) {
+    match ask(alloc, board, keeper, request, reads, pushes) {
         Ok((ended, sink)) => ended == end && sink.is_closed() && sink.as_slice().len() == written,
         Err(_) => false,
     }
 }
 
 /// An end at once, a failed read in mid-stream, a failed write.
-#[test]
-fn ends_without_an_answer(rt: HostRuntime) {
-    let alloc = rt.alloc();
-    let (Ok(board), Ok(reads), Ok(pushes)) = (
-        Board::make(alloc, 0),
+fn ends_unanswered<Y: Keeper>(alloc: Global, board: &Board, keeper: &mut Y) -> bool {
+    let fault = PushFault { call: 0, after: 5 };
+    let (Ok(second), Ok(write)) = (
         Vec::from_slice(alloc, &[1]),
-        Vec::from_slice(alloc, &[PushFault { call: 0, after: 5 }]),
+        Vec::from_slice(alloc, &[fault]),
     ) else {
-        panic!(rt; "no memory");
+        return false;
     };
-    let live = b"GET /live HTTP/1.1\r\n\r\n";
-    assert!(rt;
-        ends(
-            alloc,
-            &board,
-            b"",
-            Vec::new(alloc),
-            Vec::new(alloc),
-            OperatorEnd::Nothing,
-            0
-        )
-    );
-    assert!(rt;
-        ends(
-            alloc,
-            &board,
-            live,
-            reads,
-            Vec::new(alloc),
-            OperatorEnd::ReadFail,
-            0
-        )
-    );
-    assert!(rt;
-        ends(
-            alloc,
-            &board,
-            live,
-            Vec::new(alloc),
-            pushes,
-            OperatorEnd::WriteFail,
-            5
-        )
-    );
+    let (reads, pushes) = (Vec::new(alloc), Vec::new(alloc));
+    ends(
+        alloc,
+        board,
+        keeper,
+        b"",
+        reads,
+        pushes,
+        OperatorEnd::Nothing,
+        0,
+    ) && fails_read(alloc, board, keeper, second)
+        && fails_write(alloc, board, keeper, write)
+}
+
+fn fails_read<Y: Keeper>(alloc: Global, board: &Board, keeper: &mut Y, reads: Vec<u64>) -> bool {
+    let pushes = Vec::new(alloc);
+    ends(
+        alloc,
+        board,
+        keeper,
+        live_request(),
+        reads,
+        pushes,
+        OperatorEnd::ReadFail,
+        0,
+    )
+}
+
+fn fails_write<Y: Keeper>(
+    alloc: Global,
+    board: &Board,
+    keeper: &mut Y,
+    pushes: Vec<PushFault>,
+) -> bool {
+    let reads = Vec::new(alloc);
+    ends(
+        alloc,
+        board,
+        keeper,
+        live_request(),
+        reads,
+        pushes,
+        OperatorEnd::WriteFail,
+        5,
+    )
+}
+
+/// Every row, over a keeper without notes.
+fn answers_all<Y: Keeper>(alloc: Global, board: &Board, keeper: &mut Y) -> bool {
+    answers_requests(alloc, board, keeper)
+        && refuses_heads(alloc, board, keeper)
+        && ends_unanswered(alloc, board, keeper)
+        && shows_notes(alloc, board, keeper)
+}
+
+/// Two pages of a keeper whose calls fail, and one that needs none.
+fn answers_without_notes<Y: Keeper>(alloc: Global, board: &Board, keeper: &mut Y) -> bool {
+    lacks(alloc, board, keeper, "/sessions", 503)
+        && lacks(alloc, board, keeper, "/sessions/1", 503)
+        && gets(alloc, board, keeper, live_request(), 200, live_reply())
 }
 
 #[test]
-fn shows_totals(rt: HostRuntime) {
+fn answers_over_a_keeper_in_memory(rt: HostRuntime) {
     let alloc = rt.alloc();
-    let Ok(mut board) = Board::make(alloc, 0) else {
-        panic!(rt; "no board");
+    let (Ok(board), Ok(failing)) = (Board::make(alloc, 0), Vec::from_slice(alloc, &[0, 1])) else {
+        panic!(rt; "no memory");
     };
     let mut keeper = MemKeeper::new(alloc, Vec::new(alloc));
-    board.began();
-    assert!(rt; board.note(&noted(1)));
-    let body = "{\"exchanges\":2,\"masked\":2,\"sessions\":1,\"unkept\":0}";
-    assert!(rt; shows(alloc, &board, &mut keeper, "/totals", 200, "200 OK", body));
+    assert!(rt; answers_all(alloc, &board, &mut keeper));
+    let mut faulty = MemKeeper::new(alloc, failing);
+    assert!(rt; answers_without_notes(alloc, &board, &mut faulty));
+    assert_eq!(rt; faulty.faults(), 2);
+}
+
+/// A store in a folder that isn't there fails at each call.
+#[test]
+fn answers_over_a_table(rt: HostRuntime) {
+    let alloc = rt.alloc();
+    let (Ok(board), Ok(mut keeper), Ok(mut faulty)) = (
+        Board::make(alloc, 0),
+        SqlKeeper::in_memory(alloc),
+        SqlKeeper::open(&rt, alloc, "no_such_folder/notes.db"),
+    ) else {
+        panic!(rt; "no keeper");
+    };
+    assert!(rt; answers_all(alloc, &board, &mut keeper));
+    assert!(rt; answers_without_notes(alloc, &board, &mut faulty));
+    assert_eq!(rt; faulty.faults(), 2);
 }

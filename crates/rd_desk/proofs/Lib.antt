@@ -1,0 +1,4 @@
+pub mod Notes
+pub mod Ids
+pub mod Orderly
+pub mod At
