@@ -2,8 +2,8 @@
 use Rattle.std.specs.Prelude.{◌≡◌, ℕ, ◌+◌, ◌-◌, ◌^◌, ◌≤◌, ◌⊎◌, max}
 use Rattle.rd_base.specs.Counts.{sum_counted}
 use Rattle.rd_base.specs.declared.values.Ending.{Ending}
-use Rattle.rd_base.specs.declared.values.Ending.TheVariants.{Done, Closed, Retired, Disagree, Noise, Malformed, TooBig, Unsupported, Unsolicited, Broken, Late, LinkFault, Stopped, FullLog, NoMemory, Unstarted}
-use Rattle.rd_runner.specs.declared.left.Summary.{Summary}
+use Rattle.rd_base.specs.declared.values.Ending.TheVariants.{Late, Stopped, Unstarted}
+use Rattle.rd_runner.specs.declared.session.Summary.{Summary}
 use Rattle.rd_runner.specs.Runs.{Setup}
 
 -- what it holds sessions to, how often it said yes to one that asked whether to stop, how many starts of readers were
@@ -17,59 +17,17 @@ pub record RunnerTold : Type 0 where
 -- 1 for Stopped
 abbrev pub stopped : Ending → ℕ
 stopped Stopped = 1
-stopped Done = 0
-stopped (Closed link) = 0
-stopped Retired = 0
-stopped (Disagree exchange copy place) = 0
-stopped (Noise exchange place) = 0
-stopped (Malformed link) = 0
-stopped (TooBig link) = 0
-stopped (Unsupported link code) = 0
-stopped (Unsolicited link) = 0
-stopped (Broken link) = 0
-stopped (Late which) = 0
-stopped (LinkFault link) = 0
-stopped FullLog = 0
-stopped NoMemory = 0
-stopped Unstarted = 0
+stopped other = 0
 
 -- 1 for Unstarted
 abbrev pub unstarted : Ending → ℕ
 unstarted Unstarted = 1
-unstarted Done = 0
-unstarted (Closed link) = 0
-unstarted Retired = 0
-unstarted (Disagree exchange copy place) = 0
-unstarted (Noise exchange place) = 0
-unstarted (Malformed link) = 0
-unstarted (TooBig link) = 0
-unstarted (Unsupported link code) = 0
-unstarted (Unsolicited link) = 0
-unstarted (Broken link) = 0
-unstarted (Late which) = 0
-unstarted (LinkFault link) = 0
-unstarted Stopped = 0
-unstarted FullLog = 0
-unstarted NoMemory = 0
+unstarted other = 0
 
 -- this stamp for Late, else 0
 abbrev pub late : ℕ → Ending → ℕ
 late stamp (Late which) = stamp
-late stamp Done = 0
-late stamp (Closed link) = 0
-late stamp Retired = 0
-late stamp (Disagree exchange copy place) = 0
-late stamp (Noise exchange place) = 0
-late stamp (Malformed link) = 0
-late stamp (TooBig link) = 0
-late stamp (Unsupported link code) = 0
-late stamp (Unsolicited link) = 0
-late stamp (Broken link) = 0
-late stamp (LinkFault link) = 0
-late stamp Stopped = 0
-late stamp FullLog = 0
-late stamp NoMemory = 0
-late stamp Unstarted = 0
+late stamp other = 0
 
 -- a count rose by at least so much, or stands at its last value
 abbrev pub RoseBy : ℕ → ℕ → ℕ → Type 0

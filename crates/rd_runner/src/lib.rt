@@ -1,8 +1,6 @@
-// Who runs the session of a visit, as the serving loop sees it.
+// What sessions are held to, what they come to, and what is counted of them.
 #![tactic(auto)]
 
-mod left;
-mod runner;
+mod session;
 
-pub use left::{Left, Summary};
-pub use runner::{Ended, Runner};
+pub use session::{Ended, Summary};

@@ -4,7 +4,8 @@ use Rattle.std.proofs.lemmas.Bool.{cases_lt}
 use Rattle.rd_base.specs.Counts.{sum_counted}
 use Rattle.rd_doors.specs.Visits.{RunTold, Entry, Gave, GaveOperator, CameBack, TurnedAway, CameFromOperator, entries_with}
 use Rattle.rd_doors.specs.Calls.{DoorsTold}
-use Rattle.rd_runner.specs.declared.left.Summary.{Summary}
+use Rattle.rd_run_session.specs.declared.left.SessionLeft.{SessionLeft}
+use Rattle.rd_run_session.specs.Left.{summary_of}
 use Rattle.rd_runner.specs.Counts.{RunnerTold, RoseBy, Runs, TakesIn, stopped, unstarted, late}
 use Rattle.rd_serve.specs.Counting.{CountedBy, EachRun, IsWithin, sum_runs, times_stopped, times_unstarted}
 use Rattle.rd_serve.proofs.Telling.{told_more}
@@ -27,7 +28,7 @@ each_run_more P (CameBack run ∷ t) e each last = (each.0, each_run_more P t e 
 each_run_more P (TurnedAway ends ∷ t) e each last = each_run_more P t e each last
 each_run_more P (CameFromOperator source sink end ∷ t) e each last = each_run_more P t e each last
 
-each_run_kept : {L : Type 0} (P Q : L → Type 0) → ((l : L) → P l → Q l) → (t : List (Entry L)) → EachRun P t → EachRun Q t
+pub each_run_kept : {L : Type 0} (P Q : L → Type 0) → ((l : L) → P l → Q l) → (t : List (Entry L)) → EachRun P t → EachRun Q t
 each_run_kept P Q more [] each = tt
 each_run_kept P Q more (Gave side ends ∷ t) each = each_run_kept P Q more t each
 each_run_kept P Q more (GaveOperator source sink ∷ t) each = each_run_kept P Q more t each
@@ -81,58 +82,58 @@ quiet_more : {L : Type 0} (f : L → ℕ) (e : Entry L) (was : List (Entry L)) (
     → RoseBy (sum_runs f was) base now → RoseBy (sum_runs f (was ++ e ∷ [])) base now
 quiet_more f e was base now none fits = subst (λ n. RoseBy n base now) (sym (quiet_sum f e was none)) fits
 
-module _ {L : Type 0} (summary : L → Summary) where
+module _ {R : Type 0} where
   -- a run more, by who ran it beside this one
-  pub counted_joined : (first other before after : RunnerTold) (d d' : DoorsTold L) (run : RunTold L)
-      → CountedBy summary first before d → d'.told ≡ entries_with (Some (CameBack run)) d.told → TakesIn other before after
-      → RoseBy (stopped (summary run.left).ending) 0 other.yeses
-      → RoseBy (unstarted (summary run.left).ending) 0 other.refusals
-      → late (summary run.left).last (summary run.left).ending ≤ other.span
-      → CountedBy summary first after d'
+  pub counted_joined : (first other before after : RunnerTold) (d d' : DoorsTold (SessionLeft R)) (run : RunTold (SessionLeft R))
+      → CountedBy first before d → d'.told ≡ entries_with (Some (CameBack run)) d.told → TakesIn other before after
+      → RoseBy (stopped (summary_of run.left.report).ending) 0 other.yeses
+      → RoseBy (unstarted (summary_of run.left.report).ending) 0 other.refusals
+      → late (summary_of run.left.report).last (summary_of run.left.report).ending ≤ other.span
+      → CountedBy first after d'
   counted_joined first other before after d d' run had told takes yeses refusals span = record {
     setup = takes.setup ∙ had.setup;
-    yeses = λ t is. told_more (λ t. RoseBy (times_stopped summary t) first.yeses after.yeses) (CameBack run) d.told t (sym told ∙ is)
-        (λ was had_told. joined_more (λ l. stopped (summary l).ending) run was first.yeses before.yeses other.yeses after.yeses yeses (had.yeses was had_told) takes.yeses);
-    refusals = λ t is. told_more (λ t. RoseBy (times_unstarted summary t) first.refusals after.refusals) (CameBack run) d.told t (sym told ∙ is)
-        (λ was had_told. joined_more (λ l. unstarted (summary l).ending) run was first.refusals before.refusals other.refusals after.refusals refusals (had.refusals was had_told) takes.refusals);
-    span = λ t is. told_more (λ t. EachRun (IsWithin summary after.span) t) (CameBack run) d.told t (sym told ∙ is)
-        (λ was had_told. each_run_more (IsWithin summary after.span) was (CameBack run)
-        (each_run_kept (IsWithin summary before.span) (IsWithin summary after.span) (λ l within. let now = takes.span in omega arith) was (had.span was had_told))
+    yeses = λ t is. told_more (λ t. RoseBy (times_stopped t) first.yeses after.yeses) (CameBack run) d.told t (sym told ∙ is)
+        (λ was had_told. joined_more (λ (l : SessionLeft R). stopped (summary_of l.report).ending) run was first.yeses before.yeses other.yeses after.yeses yeses (had.yeses was had_told) takes.yeses);
+    refusals = λ t is. told_more (λ t. RoseBy (times_unstarted t) first.refusals after.refusals) (CameBack run) d.told t (sym told ∙ is)
+        (λ was had_told. joined_more (λ (l : SessionLeft R). unstarted (summary_of l.report).ending) run was first.refusals before.refusals other.refusals after.refusals refusals (had.refusals was had_told) takes.refusals);
+    span = λ t is. told_more (λ t. EachRun (IsWithin after.span) t) (CameBack run) d.told t (sym told ∙ is)
+        (λ was had_told. each_run_more (IsWithin after.span) was (CameBack run)
+        (each_run_kept (IsWithin before.span) (IsWithin after.span) (λ l within. let now = takes.span in omega arith) was (had.span was had_told))
         (let now = takes.span in omega arith, tt));
   }
 
   -- a run more, by this one
-  pub counted_run : (first before after : RunnerTold) (d d' : DoorsTold L) (run : RunTold L)
-      → CountedBy summary first before d → d'.told ≡ entries_with (Some (CameBack run)) d.told → Runs (summary run.left) before after
-      → CountedBy summary first after d'
+  pub counted_run : (first before after : RunnerTold) (d d' : DoorsTold (SessionLeft R)) (run : RunTold (SessionLeft R))
+      → CountedBy first before d → d'.told ≡ entries_with (Some (CameBack run)) d.told → Runs (summary_of run.left.report) before after
+      → CountedBy first after d'
   counted_run first before after d d' run had told runs = record {
     setup = runs.setup ∙ had.setup;
-    yeses = λ t is. told_more (λ t. RoseBy (times_stopped summary t) first.yeses after.yeses) (CameBack run) d.told t (sym told ∙ is)
-        (λ was had_told. run_more (λ l. stopped (summary l).ending) run was first.yeses before.yeses after.yeses runs.yeses runs.yeses_stay (had.yeses was had_told));
-    refusals = λ t is. told_more (λ t. RoseBy (times_unstarted summary t) first.refusals after.refusals) (CameBack run) d.told t (sym told ∙ is)
-        (λ was had_told. run_more (λ l. unstarted (summary l).ending) run was first.refusals before.refusals after.refusals runs.refusals runs.refusals_stay (had.refusals was had_told));
-    span = λ t is. told_more (λ t. EachRun (IsWithin summary after.span) t) (CameBack run) d.told t (sym told ∙ is)
-        (λ was had_told. each_run_more (IsWithin summary after.span) was (CameBack run)
-        (each_run_kept (IsWithin summary before.span) (IsWithin summary after.span) (λ l within. let now = runs.span in omega arith) was (had.span was had_told))
+    yeses = λ t is. told_more (λ t. RoseBy (times_stopped t) first.yeses after.yeses) (CameBack run) d.told t (sym told ∙ is)
+        (λ was had_told. run_more (λ (l : SessionLeft R). stopped (summary_of l.report).ending) run was first.yeses before.yeses after.yeses runs.yeses runs.yeses_stay (had.yeses was had_told));
+    refusals = λ t is. told_more (λ t. RoseBy (times_unstarted t) first.refusals after.refusals) (CameBack run) d.told t (sym told ∙ is)
+        (λ was had_told. run_more (λ (l : SessionLeft R). unstarted (summary_of l.report).ending) run was first.refusals before.refusals after.refusals runs.refusals runs.refusals_stay (had.refusals was had_told));
+    span = λ t is. told_more (λ t. EachRun (IsWithin after.span) t) (CameBack run) d.told t (sym told ∙ is)
+        (λ was had_told. each_run_more (IsWithin after.span) was (CameBack run)
+        (each_run_kept (IsWithin before.span) (IsWithin after.span) (λ l within. let now = runs.span in omega arith) was (had.span was had_told))
         (runs.latest, tt));
   }
 
   -- another entry than a run
-  pub counted_quiet : (first now : RunnerTold) (d d' : DoorsTold L) (e : Entry L)
-      → CountedBy summary first now d → d'.told ≡ entries_with (Some e) d.told
-      → ((f : L → ℕ) → sum_runs f (e ∷ []) ≡ 0) → ((P : L → Type 0) → EachRun P (e ∷ []))
-      → CountedBy summary first now d'
+  pub counted_quiet : (first now : RunnerTold) (d d' : DoorsTold (SessionLeft R)) (e : Entry (SessionLeft R))
+      → CountedBy first now d → d'.told ≡ entries_with (Some e) d.told
+      → ((f : SessionLeft R → ℕ) → sum_runs f (e ∷ []) ≡ 0) → ((P : SessionLeft R → Type 0) → EachRun P (e ∷ []))
+      → CountedBy first now d'
   counted_quiet first now d d' e had told none no_run = record {
     setup = had.setup;
-    yeses = λ t is. told_more (λ t. RoseBy (times_stopped summary t) first.yeses now.yeses) e d.told t (sym told ∙ is)
-        (λ was had_told. quiet_more (λ l. stopped (summary l).ending) e was first.yeses now.yeses (none (λ l. stopped (summary l).ending)) (had.yeses was had_told));
-    refusals = λ t is. told_more (λ t. RoseBy (times_unstarted summary t) first.refusals now.refusals) e d.told t (sym told ∙ is)
-        (λ was had_told. quiet_more (λ l. unstarted (summary l).ending) e was first.refusals now.refusals (none (λ l. unstarted (summary l).ending)) (had.refusals was had_told));
-    span = λ t is. told_more (λ t. EachRun (IsWithin summary now.span) t) e d.told t (sym told ∙ is)
-        (λ was had_told. each_run_more (IsWithin summary now.span) was e (had.span was had_told) (no_run (IsWithin summary now.span)));
+    yeses = λ t is. told_more (λ t. RoseBy (times_stopped t) first.yeses now.yeses) e d.told t (sym told ∙ is)
+        (λ was had_told. quiet_more (λ (l : SessionLeft R). stopped (summary_of l.report).ending) e was first.yeses now.yeses (none (λ (l : SessionLeft R). stopped (summary_of l.report).ending)) (had.yeses was had_told));
+    refusals = λ t is. told_more (λ t. RoseBy (times_unstarted t) first.refusals now.refusals) e d.told t (sym told ∙ is)
+        (λ was had_told. quiet_more (λ (l : SessionLeft R). unstarted (summary_of l.report).ending) e was first.refusals now.refusals (none (λ (l : SessionLeft R). unstarted (summary_of l.report).ending)) (had.refusals was had_told));
+    span = λ t is. told_more (λ t. EachRun (IsWithin now.span) t) e d.told t (sym told ∙ is)
+        (λ was had_told. each_run_more (IsWithin now.span) was e (had.span was had_told) (no_run (IsWithin now.span)));
   }
 
-  pub counted_same : (first now : RunnerTold) (d d' : DoorsTold L) → CountedBy summary first now d → d'.told ≡ d.told → CountedBy summary first now d'
+  pub counted_same : (first now : RunnerTold) (d d' : DoorsTold (SessionLeft R)) → CountedBy first now d → d'.told ≡ d.told → CountedBy first now d'
   counted_same first now d d' had told = record {
     setup = had.setup;
     yeses = λ t is. had.yeses t (sym told ∙ is);

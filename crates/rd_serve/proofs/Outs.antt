@@ -7,9 +7,10 @@ use Rattle.rd_base.specs.Sources.{SourceTold}
 use Rattle.rd_doors.specs.Visits.{Holds, without, marks_of}
 use Rattle.rd_doors.specs.Calls.{DoorsTold}
 use Rattle.rd_runner.specs.Runs.{Setup}
-use Rattle.rd_runner.specs.Counts.{RunnerTold}
+use Rattle.rd_run_session.specs.declared.left.SessionLeft.{SessionLeft}
 use Rattle.rd_serve.specs.Serving.{one_if}
-use Rattle.rd_serve.specs.Sessions.{AreOut, IsOut, KeepsTold, Each, times}
+use Rattle.rd_serve.specs.Sessions.{AreOut, IsOut, Keeps, KeepsTold, Each, times}
+use Rattle.rd_serve.specs.declared.session.Served.{Served}
 use Rattle.rd_serve.specs.declared.session.Session.{Session}
 use Rattle.rd_serve.proofs.Telling.{some_is}
 use Rattle.rd_serve.proofs.Times.{times_snoc, times_without, length_without, holds_of_times, same_times}
@@ -35,6 +36,11 @@ pub all_kept : {A : Type 0} (P Q : A → Type 0) → ((x : A) → P x → Q x) �
 all_kept P Q more [] all = tt
 all_kept P Q more (x ∷ xs) all = (more x all.0, all_kept P Q more xs all.1)
 
+pub each_at : {A : Type 0} (P : A → Type 0) (xs : List A) (i : ℕ) (d : A) → i < length xs → Each P xs → P (get_or xs i d)
+each_at P [] i d within all = absurd (omega arith)
+each_at P (x ∷ xs) zero d within all = all.0
+each_at P (x ∷ xs) (suc i) d within all = each_at P xs i d (omega arith) all.1
+
 pub each_snoc : {A : Type 0} (P : A → Type 0) (xs : List A) (y : A) → Each P xs → P y → Each P (xs ++ y ∷ [])
 each_snoc P [] y all last = (last, tt)
 each_snoc P (x ∷ xs) y all last = (all.0, each_snoc P xs y all.1 last)
@@ -44,37 +50,50 @@ pub same_marks : (made : Option ℕ) (count copies n m : ℕ) (xs ys : List Mark
 same_marks made count copies n m xs ys has is same marks number =
     same ∙ marks ∙ ap (λ c. marks_of c m) (some_is count copies (sym has ∙ is)) ∙ ap (marks_of copies) number
 
-module _ {S K L Q : Type 0} (source : S → SourceTold) (sink : K → SinkTold) (tells : Q → RunnerTold) (setup : Setup) where
-  pub kept : (d d' : DoorsTold L) (ss : List (Session S K L Q)) → KeepsTold d d'
-      → Each (λ s. IsOut source sink tells setup d s) ss → Each (λ s. IsOut source sink tells setup d' s) ss
-  kept d d' ss keeps all = all_kept (λ s. IsOut source sink tells setup d s) (λ s. IsOut source sink tells setup d' s)
+module _ {S K P C T R : Type 0} (source : S → SourceTold) (sink : K → SinkTold) (setup : Setup) where
+  pub kept : (d d' : DoorsTold (SessionLeft R)) (ss : List (Session S K P C T R)) → KeepsTold d d'
+      → Each (λ s. IsOut source sink setup d s) ss → Each (λ s. IsOut source sink setup d' s) ss
+  kept d d' ss keeps all = all_kept (λ s. IsOut source sink setup d s) (λ s. IsOut source sink setup d' s)
       (λ s is. record { held_to = is.held_to; side = is.side; ends = is.ends; number = is.number; fresh = is.fresh; given = keeps _ is.given }) ss all
 
-  pub out_holds : (d : DoorsTold L) (w : Option ℕ) (ss : List (Session S K L Q)) (i : ℕ) (s : Session S K L Q)
-      → AreOut source sink tells setup d w ss → i < length ss → s ≡ get_or ss i s → Holds s.number d.out
+  pub out_holds : (d : DoorsTold (SessionLeft R)) (w : Option ℕ) (ss : List (Session S K P C T R)) (i : ℕ) (s : Session S K P C T R)
+      → AreOut source sink setup d w ss → i < length ss → s ≡ get_or ss i s → Holds s.number d.out
   out_holds d w ss i s are within at =
-      let split = times_split (λ (x : Session S K L Q). x.number) s.number ss i s within in
-      let is : (get_or ss i s).number ≡ s.number = ap (λ (x : Session S K L Q). x.number) (sym at) in
+      let split = times_split (λ (x : Session S K P C T R). x.number) s.number ss i s within in
+      let is : (get_or ss i s).number ≡ s.number = ap (λ (x : Session S K P C T R). x.number) (sym at) in
       let one : one_if ((get_or ss i s).number == s.number) ≡ 1 = ap (λ n. one_if (n == s.number)) is ∙ same_times s.number in
       let same = are.same s.number in
       holds_of_times s.number d.out (omega arith)
 
-  pub out_left : (d d' : DoorsTold L) (w : Option ℕ) (ss rest : List (Session S K L Q)) (i : ℕ) (s : Session S K L Q)
-      → AreOut source sink tells setup d w ss → i < length ss → s ≡ get_or ss i s → rest ≡ take i ss ++ drop (i + 1) ss
-      → d'.out ≡ without s.number d.out → KeepsTold d d' → AreOut source sink tells setup d' w rest
+  pub out_is : (d : DoorsTold (SessionLeft R)) (w : Option ℕ) (ss : List (Session S K P C T R)) (i : ℕ) (s : Session S K P C T R)
+      → AreOut source sink setup d w ss → i < length ss → s ≡ get_or ss i s → IsOut source sink setup d s
+  out_is d w ss i s are within at = subst (λ x. IsOut source sink setup d x) (sym at) (each_at (λ x. IsOut source sink setup d x) ss i s within are.each)
+
+  -- what a session's thread promised is what is kept of the visit that the doors told
+  pub keeps_promise : (d : DoorsTold (SessionLeft R)) (s : Session S K P C T R) (served : Served S K P C T R) → IsOut source sink setup d s
+      → Keeps source sink s.handle.promise.runner.value.setup s.handle.promise.side s.handle.promise.ends.value served
+      → Keeps source sink setup s.side s.ends.value served
+  keeps_promise d s served is keeps =
+      subst (λ held_to. Keeps source sink held_to s.side s.ends.value served) is.held_to
+      (subst (λ side. Keeps source sink s.handle.promise.runner.value.setup side s.ends.value served) is.side
+      (subst (λ ends. Keeps source sink s.handle.promise.runner.value.setup s.handle.promise.side ends served) is.ends keeps))
+
+  pub out_left : (d d' : DoorsTold (SessionLeft R)) (w : Option ℕ) (ss rest : List (Session S K P C T R)) (i : ℕ) (s : Session S K P C T R)
+      → AreOut source sink setup d w ss → i < length ss → s ≡ get_or ss i s → rest ≡ take i ss ++ drop (i + 1) ss
+      → d'.out ≡ without s.number d.out → KeepsTold d d' → AreOut source sink setup d' w rest
   out_left d d' w ss rest i s are within at left out keeps =
       let left' : rest ≡ take i ss ++ drop (suc i) ss = left ∙ ap (λ j. take i ss ++ drop j ss) (add-one i) in
       let holds = out_holds d w ss i s are within at in
       record {
-        each = kept d d' rest keeps (subst (Each (λ s. IsOut source sink tells setup d s)) (sym left') (all_left (λ s. IsOut source sink tells setup d s) ss i are.each));
+        each = kept d d' rest keeps (subst (Each (λ s. IsOut source sink setup d s)) (sym left') (all_left (λ s. IsOut source sink setup d s) ss i are.each));
         same = λ n.
-            let split = times_split (λ (x : Session S K L Q). x.number) n ss i s within in
-            let is : (get_or ss i s).number ≡ s.number = ap (λ (x : Session S K L Q). x.number) (sym at) in
+            let split = times_split (λ (x : Session S K P C T R). x.number) n ss i s within in
+            let is : (get_or ss i s).number ≡ s.number = ap (λ (x : Session S K P C T R). x.number) (sym at) in
             let one : one_if ((get_or ss i s).number == n) ≡ one_if (s.number == n) = ap (λ m. one_if (m == n)) is in
             let had = are.same n in
             let less = times_without s.number n d.out holds in
             let now : times n d'.out ≡ times n (without s.number d.out) = ap (times n) out in
-            let these : times n (map (λ (x : Session S K L Q). x.number) rest) ≡ times n (map (λ (x : Session S K L Q). x.number) (take i ss ++ drop (suc i) ss)) = ap (λ xs. times n (map (λ (x : Session S K L Q). x.number) xs)) left' in
+            let these : times n (map (λ (x : Session S K P C T R). x.number) rest) ≡ times n (map (λ (x : Session S K P C T R). x.number) (take i ss ++ drop (suc i) ss)) = ap (λ xs. times n (map (λ (x : Session S K P C T R). x.number) xs)) left' in
             omega arith;
         count =
             let had = are.count in
@@ -85,7 +104,7 @@ module _ {S K L Q : Type 0} (source : S → SourceTold) (sink : K → SinkTold) 
             omega arith;
       }
 
-  pub still_out : (d d' : DoorsTold L) (w : Option ℕ) (ss : List (Session S K L Q)) → AreOut source sink tells setup d w ss → d'.out ≡ d.out → KeepsTold d d' → AreOut source sink tells setup d' w ss
+  pub still_out : (d d' : DoorsTold (SessionLeft R)) (w : Option ℕ) (ss : List (Session S K P C T R)) → AreOut source sink setup d w ss → d'.out ≡ d.out → KeepsTold d d' → AreOut source sink setup d' w ss
   still_out d d' w ss are out keeps = record {
     each = kept d d' ss keeps are.each;
     same = λ n. ap (times n) out ∙ are.same n;
@@ -94,11 +113,11 @@ module _ {S K L Q : Type 0} (source : S → SourceTold) (sink : K → SinkTold) 
 
   -- ---- the visit that waits to be judged
 
-  pub waiting_holds : (d : DoorsTold L) (n : ℕ) (ss : List (Session S K L Q)) → AreOut source sink tells setup d (Some n) ss → Holds n d.out
+  pub waiting_holds : (d : DoorsTold (SessionLeft R)) (n : ℕ) (ss : List (Session S K P C T R)) → AreOut source sink setup d (Some n) ss → Holds n d.out
   waiting_holds d n ss are = let same = are.same n in let one = same_times n in holds_of_times n d.out (omega arith)
 
-  pub waiting_ended : (d d' : DoorsTold L) (n : ℕ) (ss : List (Session S K L Q)) → AreOut source sink tells setup d (Some n) ss
-      → d'.out ≡ without n d.out → KeepsTold d d' → AreOut source sink tells setup d' None ss
+  pub waiting_ended : (d d' : DoorsTold (SessionLeft R)) (n : ℕ) (ss : List (Session S K P C T R)) → AreOut source sink setup d (Some n) ss
+      → d'.out ≡ without n d.out → KeepsTold d d' → AreOut source sink setup d' None ss
   waiting_ended d d' n ss are out keeps =
       let holds = waiting_holds d n ss are in
       record {
@@ -115,15 +134,15 @@ module _ {S K L Q : Type 0} (source : S → SourceTold) (sink : K → SinkTold) 
             omega arith;
       }
 
-  pub waiting_begun : (d : DoorsTold L) (n : ℕ) (ss more : List (Session S K L Q)) (s : Session S K L Q) → AreOut source sink tells setup d (Some n) ss
-      → IsOut source sink tells setup d s → s.number ≡ n → more ≡ ss ++ s ∷ [] → AreOut source sink tells setup d None more
+  pub waiting_begun : (d : DoorsTold (SessionLeft R)) (n : ℕ) (ss more : List (Session S K P C T R)) (s : Session S K P C T R) → AreOut source sink setup d (Some n) ss
+      → IsOut source sink setup d s → s.number ≡ n → more ≡ ss ++ s ∷ [] → AreOut source sink setup d None more
   waiting_begun d n ss more s are is number at = record {
-    each = subst (Each (λ s. IsOut source sink tells setup d s)) (sym at) (each_snoc (λ s. IsOut source sink tells setup d s) ss s are.each is);
+    each = subst (Each (λ s. IsOut source sink setup d s)) (sym at) (each_snoc (λ s. IsOut source sink setup d s) ss s are.each is);
     same = λ m.
         let had = are.same m in
-        let last = times_snoc m s.number (map (λ (x : Session S K L Q). x.number) ss) in
-        let these : times m (map (λ (x : Session S K L Q). x.number) more) ≡ times m (map (λ (x : Session S K L Q). x.number) ss ++ s.number ∷ []) =
-        ap (λ xs. times m (map (λ (x : Session S K L Q). x.number) xs)) at ∙ ap (times m) (map-append (λ (x : Session S K L Q). x.number) ss (s ∷ [])) in
+        let last = times_snoc m s.number (map (λ (x : Session S K P C T R). x.number) ss) in
+        let these : times m (map (λ (x : Session S K P C T R). x.number) more) ≡ times m (map (λ (x : Session S K P C T R). x.number) ss ++ s.number ∷ []) =
+        ap (λ xs. times m (map (λ (x : Session S K P C T R). x.number) xs)) at ∙ ap (times m) (map-append (λ (x : Session S K P C T R). x.number) ss (s ∷ [])) in
         let one : one_if (s.number == m) ≡ one_if (n == m) = ap (λ k. one_if (k == m)) number in
         omega arith;
     count =
@@ -132,8 +151,8 @@ module _ {S K L Q : Type 0} (source : S → SourceTold) (sink : K → SinkTold) 
         omega arith;
   }
 
-  pub waiting_came : (d d' : DoorsTold L) (n : ℕ) (ss : List (Session S K L Q)) → AreOut source sink tells setup d None ss
-      → d'.out ≡ d.out ++ n ∷ [] → KeepsTold d d' → AreOut source sink tells setup d' (Some n) ss
+  pub waiting_came : (d d' : DoorsTold (SessionLeft R)) (n : ℕ) (ss : List (Session S K P C T R)) → AreOut source sink setup d None ss
+      → d'.out ≡ d.out ++ n ∷ [] → KeepsTold d d' → AreOut source sink setup d' (Some n) ss
   waiting_came d d' n ss are out keeps = record {
     each = kept d d' ss keeps are.each;
     same = λ m.

@@ -2,8 +2,9 @@
 use Rattle.std.specs.Prelude.{◌≡◌, ℕ, ◌+◌, ◌≤◌, List, [], ◌∷◌, Some}
 use Rattle.rd_doors.specs.Visits.{Entry, Gave, GaveOperator, CameBack, TurnedAway, CameFromOperator}
 use Rattle.rd_doors.specs.Calls.{DoorsTold}
-use Rattle.rd_runner.specs.declared.left.Summary.{Summary}
 use Rattle.rd_runner.specs.Counts.{RunnerTold, RoseBy, stopped, unstarted, late}
+use Rattle.rd_run_session.specs.declared.left.SessionLeft.{SessionLeft}
+use Rattle.rd_run_session.specs.Left.{summary_of}
 
 -- the sum of these numbers over the runs that came back
 abbrev pub sum_runs : {L : Type 0} → (L → ℕ) → List (Entry L) → ℕ
@@ -23,23 +24,22 @@ EachRun P (CameBack run ∷ es) = P run.left × EachRun P es
 EachRun P (TurnedAway ends ∷ es) = EachRun P es
 EachRun P (CameFromOperator source sink end ∷ es) = EachRun P es
 
-module _ {L : Type 0} (summary : L → Summary) where
-  -- how many runs that came back were stopped
-  abbrev pub times_stopped : List (Entry L) → ℕ
-  times_stopped told = sum_runs (λ l. stopped (summary l).ending) told
+-- how many runs that came back were stopped
+abbrev pub times_stopped : {R : Type 0} → List (Entry (SessionLeft R)) → ℕ
+times_stopped told = sum_runs (λ l. stopped (summary_of l.report).ending) told
 
-  -- how many couldn't be started
-  abbrev pub times_unstarted : List (Entry L) → ℕ
-  times_unstarted told = sum_runs (λ l. unstarted (summary l).ending) told
+-- how many couldn't be started
+abbrev pub times_unstarted : {R : Type 0} → List (Entry (SessionLeft R)) → ℕ
+times_unstarted told = sum_runs (λ l. unstarted (summary_of l.report).ending) told
 
-  -- a run that was Late has a stamp of at most this
-  abbrev pub IsWithin : ℕ → L → Type 0
-  IsWithin span l = late (summary l).last (summary l).ending ≤ span
+-- a run that was Late has a stamp of at most this
+abbrev pub IsWithin : {R : Type 0} → ℕ → SessionLeft R → Type 0
+IsWithin span l = late (summary_of l.report).last (summary_of l.report).ending ≤ span
 
-  -- since serving began, no more runs came back stopped or unstarted than the counts rose by, unless they stand at
-  -- their last value, and none was Late past the span
-  pub record CountedBy (first now : RunnerTold) (doors : DoorsTold L) : Type 0 where
-    pub setup : now.setup ≡ first.setup
-    pub yeses : (told : List (Entry L)) → doors.told ≡ Some told → RoseBy (times_stopped told) first.yeses now.yeses
-    pub refusals : (told : List (Entry L)) → doors.told ≡ Some told → RoseBy (times_unstarted told) first.refusals now.refusals
-    pub span : (told : List (Entry L)) → doors.told ≡ Some told → EachRun (IsWithin now.span) told
+-- since serving began, no more runs came back stopped or unstarted than the counts rose by, unless they stand at
+-- their last value, and none was Late past the span
+pub record CountedBy {R : Type 0} (first now : RunnerTold) (doors : DoorsTold (SessionLeft R)) : Type 0 where
+  pub setup : now.setup ≡ first.setup
+  pub yeses : (told : List (Entry (SessionLeft R))) → doors.told ≡ Some told → RoseBy (times_stopped told) first.yeses now.yeses
+  pub refusals : (told : List (Entry (SessionLeft R))) → doors.told ≡ Some told → RoseBy (times_unstarted told) first.refusals now.refusals
+  pub span : (told : List (Entry (SessionLeft R))) → doors.told ≡ Some told → EachRun (IsWithin now.span) told

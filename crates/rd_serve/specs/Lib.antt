@@ -1,3 +1,4 @@
 pub mod Serving
 pub mod Counting
 pub mod Sessions
+pub mod Crossing

@@ -6,9 +6,11 @@ use Rattle.rd_base.specs.declared.values.Side.{Side}
 use Rattle.rd_doors.specs.declared.visit.Ends.{Ends}
 use Rattle.rd_doors.specs.Visits.{EndsTold, RunTold, Entry, Gave, AreFresh, ends_told, run_told}
 use Rattle.rd_doors.specs.Calls.{DoorsTold}
-use Rattle.rd_runner.specs.declared.left.Summary.{Summary}
 use Rattle.rd_runner.specs.Runs.{Setup, Ran}
-use Rattle.rd_runner.specs.Counts.{RunnerTold, RoseBy, stopped, unstarted, late}
+use Rattle.rd_runner.specs.Counts.{RoseBy, stopped, unstarted, late}
+use Rattle.rd_run_session.specs.declared.left.SessionLeft.{SessionLeft}
+use Rattle.rd_run_session.specs.CameTo.{CameTo}
+use Rattle.rd_run_session.specs.Left.{summary_of}
 use Rattle.rd_serve.specs.declared.session.Served.{Served}
 use Rattle.rd_serve.specs.declared.session.Session.{Session}
 use Rattle.rd_serve.specs.Serving.{Has, one_if}
@@ -33,26 +35,25 @@ abbrev pub waits : Option ℕ → ℕ
 waits None = 0
 waits (Some m) = 1
 
-module _ {S K L Q : Type 0} (source : S → SourceTold) (sink : K → SinkTold) (summary : L → Summary) (tells : Q → RunnerTold) (by : Setup → Side → EndsTold → RunTold L → Type 0) where
+module _ {S K P C T R : Type 0} (source : S → SourceTold) (sink : K → SinkTold) where
   -- what a session's thread promises of what it gives, in terms of what it was handed, where its runner counted from 0
-  pub record Keeps (setup : Setup) (side : Side) (ends : Ends S K) (served : Served S K L Q) : Type 0 where
-    pub ran : Ran by setup side (ends_told source sink ends) (run_told source sink ends.number served.ended.run served.ended.sinks.items)
-    pub yeses : RoseBy (stopped (summary served.ended.run.left).ending) 0 (tells served.runner).yeses
-    pub refusals : RoseBy (unstarted (summary served.ended.run.left).ending) 0 (tells served.runner).refusals
-    pub span : late (summary served.ended.run.left).last (summary served.ended.run.left).ending ≤ (tells served.runner).span
+  pub record Keeps (setup : Setup) (side : Side) (ends : Ends S K) (served : Served S K P C T R) : Type 0 where
+    pub ran : Ran (CameTo S) setup side (ends_told source sink ends) (run_told source sink ends.number served.ended.run served.ended.sinks.items)
+    pub yeses : RoseBy (stopped (summary_of served.ended.run.left.report).ending) 0 served.runner.yeses
+    pub refusals : RoseBy (unstarted (summary_of served.ended.run.left.report).ending) 0 served.runner.refusals
+    pub span : late (summary_of served.ended.run.left.report).last (summary_of served.ended.run.left.report).ending ≤ served.runner.span
 
-module _ {S K L Q : Type 0} (source : S → SourceTold) (sink : K → SinkTold) (tells : Q → RunnerTold) where
   -- a session runs over a visit that the doors have told
-  pub record IsOut (setup : Setup) (doors : DoorsTold L) (s : Session S K L Q) : Type 0 where
-    pub held_to : (tells s.handle.promise.runner.value).setup ≡ setup
+  pub record IsOut (setup : Setup) (doors : DoorsTold (SessionLeft R)) (s : Session S K P C T R) : Type 0 where
+    pub held_to : s.handle.promise.runner.value.setup ≡ setup
     pub side : s.handle.promise.side ≡ s.side
     pub ends : s.handle.promise.ends.value ≡ s.ends.value
     pub number : s.ends.value.number ≡ s.number
     pub fresh : AreFresh setup.limits.copies (ends_told source sink s.ends.value)
-    pub given : (told : List (Entry L)) → doors.told ≡ Some told → Has (Gave s.side (ends_told source sink s.ends.value)) told
+    pub given : (told : List (Entry (SessionLeft R))) → doors.told ≡ Some told → Has (Gave s.side (ends_told source sink s.ends.value)) told
 
   -- the visits that are out are those of these sessions, and the one that waits to be judged
-  pub record AreOut (setup : Setup) (doors : DoorsTold L) (waiting : Option ℕ) (sessions : List (Session S K L Q)) : Type 0 where
+  pub record AreOut (setup : Setup) (doors : DoorsTold (SessionLeft R)) (waiting : Option ℕ) (sessions : List (Session S K P C T R)) : Type 0 where
     pub each : Each (λ s. IsOut setup doors s) sessions
     pub same : (n : ℕ) → times n doors.out ≡ times_waits n waiting + times n (map (λ s. s.number) sessions)
     pub count : length doors.out ≡ waits waiting + length sessions

@@ -2,14 +2,18 @@ ghost use Rattle.std.specs.Prelude.{◌≡◌, ℕ, ◌+◌, ◌<◌, ◌≤◌,
 ghost use Rattle.rd_doors.specs.Visits.{Entry, Gave, CameBack, AreFresh, Holds, without, entries_with, ends_told, run_told};
 ghost use Rattle.rd_runner.specs.Runs.{Ran};
 ghost use Rattle.rd_runner.specs.Counts.{RoseBy};
+ghost use Rattle.rd_run_session.specs.CameTo.{CameTo};
+ghost use Rattle.rd_run_session.specs.declared.left.SessionLeft.{SessionLeft};
 ghost use Rattle.rd_serve.specs.Serving.{Tells, IsServed, Has, times_given, times_ended};
 ghost use Rattle.rd_serve.specs.Counting.{CountedBy, EachRun, IsWithin, times_stopped, times_unstarted};
 ghost use Rattle.rd_serve.specs.Sessions.{AreOut, Keeps, KeepsTold, HasRoom};
 
 use crate::session::{Served, Session, begin};
-use rd_base::{NoMemory, OperatorEnd, Side, Sink, Source};
+use rd_base::{Clock, NoMemory, OperatorEnd, Side, Sink, Source, Stopper};
 use rd_doors::{Doors, Ends, Visit};
-use rd_runner::{Ended, Left, Runner};
+use rd_run_session::{SessionLeft, SessionRunner, another_runner, run_visit, take_in_runner};
+use rd_runner::Ended;
+use rd_start::Spawner;
 use std::alloc::Global;
 use std::snapshot::Snapshot;
 use std::sync::atomic::{AtomicBool, Ordering};
@@ -20,24 +24,31 @@ use std::thread::Threads;
 const SESSIONS: usize = 32;
 
 /// Gives the run of a visit that is out back to the doors.
-fn hand_back<L: Left, E: Doors<L>, Q: Runner<E::Give, E::Take, L>>(
+fn hand_back<
+    P: Spawner + Send + 'static,
+    C: Clock + Send + 'static,
+    T: Stopper + Send + 'static,
+    R: Wait + Threads + Copy + Send + Sync + 'static,
+    E: Doors<SessionLeft<R>>,
+>(
     doors: &mut E,
-    first: &Snapshot<Q>,
+    first: &Snapshot<SessionRunner<P, C, T, R>>,
     side: Side,
     ends: Snapshot<Ends<E::Give, E::Take>>,
     number: u64,
-    ended: Ended<E::Give, E::Take, L>,
+    ended: Ended<E::Give, E::Take, SessionLeft<R>>,
 )
-    requires tells { Tells Q.comes_to (Q.tells first.now.value).setup (E.tells doors.old) }
+    requires tells { Tells (CameTo E.Give) first.now.value.setup (E.tells doors.old) }
     requires number { ends.value.number ≡ number }
     requires out { Holds number (E.tells doors.old).out }
-    requires fresh { AreFresh (Q.tells first.now.value).setup.limits.copies
+    requires fresh { AreFresh first.now.value.setup.limits.copies
         (ends_told E.Give.tells E.Take.tells ends.value) }
-    requires given { (told : List (Entry L)) → (E.tells doors.old).told ≡ Some told
+    requires given { (told : List (Entry (SessionLeft R))) → (E.tells doors.old).told ≡ Some told
         → Has (Gave side (ends_told E.Give.tells E.Take.tells ends.value)) told }
-    requires ran { Ran Q.comes_to (Q.tells first.now.value).setup side (ends_told E.Give.tells E.Take.tells ends.value)
+    requires ran { Ran (CameTo E.Give) first.now.value.setup side
+        (ends_told E.Give.tells E.Take.tells ends.value)
         (run_told E.Give.tells E.Take.tells ends.value.number ended.run ended.sinks.items) }
-    ensures tells { Tells Q.comes_to (Q.tells first.now.value).setup (E.tells doors.new) }
+    ensures tells { Tells (CameTo E.Give) first.now.value.setup (E.tells doors.new) }
     ensures out { (E.tells doors.new).out ≡ without number (E.tells doors.old).out }
     ensures told { (E.tells doors.new).told ≡ entries_with
         (Some (CameBack (run_told E.Give.tells E.Take.tells number ended.run ended.sinks.items)))
@@ -52,29 +63,35 @@ fn hand_back<L: Left, E: Doors<L>, Q: Runner<E::Give, E::Take, L>>(
 }
 
 /// Takes in who ran a session, and gives its run back to the doors.
-fn give_back<L: Left, E: Doors<L>, Q: Runner<E::Give, E::Take, L>>(
+fn give_back<
+    P: Spawner + Send + 'static,
+    C: Clock + Send + 'static,
+    T: Stopper + Send + 'static,
+    R: Wait + Threads + Copy + Send + Sync + 'static,
+    E: Doors<SessionLeft<R>>,
+>(
     doors: &mut E,
-    runner: &mut Q,
-    first: &Snapshot<Q>,
+    runner: &mut SessionRunner<P, C, T, R>,
+    first: &Snapshot<SessionRunner<P, C, T, R>>,
     side: Side,
     ends: Snapshot<Ends<E::Give, E::Take>>,
     number: u64,
-    served: Served<E::Give, E::Take, L, Q>,
+    served: Served<E::Give, E::Take, P, C, T, R>,
 )
-    requires tells { Tells Q.comes_to (Q.tells first.now.value).setup (E.tells doors.old) }
-    requires counts { CountedBy L.tells (Q.tells first.now.value)
-        (Q.tells runner.old) (E.tells doors.old) }
+    requires tells { Tells (CameTo E.Give) first.now.value.setup (E.tells doors.old) }
+    requires counts { CountedBy first.now.value
+        runner.old (E.tells doors.old) }
     requires number { ends.value.number ≡ number }
     requires out { Holds number (E.tells doors.old).out }
-    requires fresh { AreFresh (Q.tells first.now.value).setup.limits.copies
+    requires fresh { AreFresh first.now.value.setup.limits.copies
         (ends_told E.Give.tells E.Take.tells ends.value) }
-    requires given { (told : List (Entry L)) → (E.tells doors.old).told ≡ Some told
+    requires given { (told : List (Entry (SessionLeft R))) → (E.tells doors.old).told ≡ Some told
         → Has (Gave side (ends_told E.Give.tells E.Take.tells ends.value)) told }
-    requires kept { Keeps E.Give.tells E.Take.tells L.tells Q.tells Q.comes_to
-        (Q.tells first.now.value).setup side ends.value served }
-    ensures tells { Tells Q.comes_to (Q.tells first.now.value).setup (E.tells doors.new) }
-    ensures counts { CountedBy L.tells (Q.tells first.now.value)
-        (Q.tells runner.new) (E.tells doors.new) }
+    requires kept { Keeps E.Give.tells E.Take.tells
+        first.now.value.setup side ends.value served }
+    ensures tells { Tells (CameTo E.Give) first.now.value.setup (E.tells doors.new) }
+    ensures counts { CountedBy first.now.value
+        runner.new (E.tells doors.new) }
     ensures out { (E.tells doors.new).out ≡ without number (E.tells doors.old).out }
     ensures keeps { KeepsTold (E.tells doors.old) (E.tells doors.new) }
     ensures over { (E.tells doors.new).is_over ≡ (E.tells doors.old).is_over }
@@ -83,32 +100,38 @@ fn give_back<L: Left, E: Doors<L>, Q: Runner<E::Give, E::Take, L>>(
         ended,
         runner: theirs,
     } = served;
-    runner.join_in(theirs);
+    take_in_runner(runner, theirs);
     hand_back(doors, first, side, ends, number, ended);
 }
 
 /// Joins the session at this place, and gives its run back.
-fn join_at<L: Left, E: Doors<L>, Q: Runner<E::Give, E::Take, L>, R: Threads + Wait + Copy>(
+fn join_at<
+    P: Spawner + Send + 'static,
+    C: Clock + Send + 'static,
+    T: Stopper + Send + 'static,
+    R: Wait + Threads + Copy + Send + Sync + 'static,
+    E: Doors<SessionLeft<R>>,
+>(
     rt: R,
     doors: &mut E,
-    runner: &mut Q,
-    first: &Snapshot<Q>,
+    runner: &mut SessionRunner<P, C, T, R>,
+    first: &Snapshot<SessionRunner<P, C, T, R>>,
     waiting: Option<u64>,
-    sessions: &mut Vec<Session<E::Give, E::Take, L, Q>>,
+    sessions: &mut Vec<Session<E::Give, E::Take, P, C, T, R>>,
     flags: &mut Vec<Arc<AtomicBool, Global>>,
     place: usize,
 )
-    requires tells { Tells Q.comes_to (Q.tells first.now.value).setup (E.tells doors.old) }
-    requires counts { CountedBy L.tells (Q.tells first.now.value)
-        (Q.tells runner.old) (E.tells doors.old) }
-    requires out { AreOut E.Give.tells E.Take.tells Q.tells (Q.tells first.now.value).setup
+    requires tells { Tells (CameTo E.Give) first.now.value.setup (E.tells doors.old) }
+    requires counts { CountedBy first.now.value
+        runner.old (E.tells doors.old) }
+    requires out { AreOut E.Give.tells E.Take.tells first.now.value.setup
         (E.tells doors.old) waiting sessions.old.items }
     requires place { place < length sessions.old.items }
     requires room { HasRoom sessions.old flags.old }
-    ensures tells { Tells Q.comes_to (Q.tells first.now.value).setup (E.tells doors.new) }
-    ensures counts { CountedBy L.tells (Q.tells first.now.value)
-        (Q.tells runner.new) (E.tells doors.new) }
-    ensures out { AreOut E.Give.tells E.Take.tells Q.tells (Q.tells first.now.value).setup
+    ensures tells { Tells (CameTo E.Give) first.now.value.setup (E.tells doors.new) }
+    ensures counts { CountedBy first.now.value
+        runner.new (E.tells doors.new) }
+    ensures out { AreOut E.Give.tells E.Take.tells first.now.value.setup
         (E.tells doors.new) waiting sessions.new.items }
     ensures keeps { KeepsTold (E.tells doors.old) (E.tells doors.new) }
     ensures over { (E.tells doors.new).is_over ≡ (E.tells doors.old).is_over }
@@ -130,9 +153,14 @@ fn join_at<L: Left, E: Doors<L>, Q: Runner<E::Give, E::Take, L>, R: Threads + Wa
 }
 
 /// The place of a session whose flag is set.
-fn ended_place<S: Source + Send + 'static, K: Sink, L: Left, Q: Runner<S, K, L>>(
-    sessions: &[Session<S, K, L, Q>],
-) -> Option<usize>
+fn ended_place<
+    S: Source + Send + 'static,
+    K: Sink,
+    P: Spawner + Send + 'static,
+    C: Clock + Send + 'static,
+    T: Stopper + Send + 'static,
+    R: Wait + Threads + Copy + Send + Sync + 'static,
+>(sessions: &[Session<S, K, P, C, T, R>]) -> Option<usize>
     ensures { IfSome result (λ place. place < length sessions.now) }
 {
     sessions
@@ -141,25 +169,31 @@ fn ended_place<S: Source + Send + 'static, K: Sink, L: Left, Q: Runner<S, K, L>>
 }
 
 /// Joins the sessions that have ended, and gives their runs back.
-fn join_ended<L: Left, E: Doors<L>, Q: Runner<E::Give, E::Take, L>, R: Threads + Wait + Copy>(
+fn join_ended<
+    P: Spawner + Send + 'static,
+    C: Clock + Send + 'static,
+    T: Stopper + Send + 'static,
+    R: Wait + Threads + Copy + Send + Sync + 'static,
+    E: Doors<SessionLeft<R>>,
+>(
     rt: R,
     doors: &mut E,
-    runner: &mut Q,
-    first: &Snapshot<Q>,
+    runner: &mut SessionRunner<P, C, T, R>,
+    first: &Snapshot<SessionRunner<P, C, T, R>>,
     waiting: Option<u64>,
-    sessions: &mut Vec<Session<E::Give, E::Take, L, Q>>,
+    sessions: &mut Vec<Session<E::Give, E::Take, P, C, T, R>>,
     flags: &mut Vec<Arc<AtomicBool, Global>>,
 )
-    requires tells { Tells Q.comes_to (Q.tells first.now.value).setup (E.tells doors.old) }
-    requires counts { CountedBy L.tells (Q.tells first.now.value)
-        (Q.tells runner.old) (E.tells doors.old) }
-    requires out { AreOut E.Give.tells E.Take.tells Q.tells (Q.tells first.now.value).setup
+    requires tells { Tells (CameTo E.Give) first.now.value.setup (E.tells doors.old) }
+    requires counts { CountedBy first.now.value
+        runner.old (E.tells doors.old) }
+    requires out { AreOut E.Give.tells E.Take.tells first.now.value.setup
         (E.tells doors.old) waiting sessions.old.items }
     requires room { HasRoom sessions.old flags.old }
-    ensures tells { Tells Q.comes_to (Q.tells first.now.value).setup (E.tells doors.new) }
-    ensures counts { CountedBy L.tells (Q.tells first.now.value)
-        (Q.tells runner.new) (E.tells doors.new) }
-    ensures out { AreOut E.Give.tells E.Take.tells Q.tells (Q.tells first.now.value).setup
+    ensures tells { Tells (CameTo E.Give) first.now.value.setup (E.tells doors.new) }
+    ensures counts { CountedBy first.now.value
+        runner.new (E.tells doors.new) }
+    ensures out { AreOut E.Give.tells E.Take.tells first.now.value.setup
         (E.tells doors.new) waiting sessions.new.items }
     ensures keeps { KeepsTold (E.tells doors.old) (E.tells doors.new) }
     ensures over { (E.tells doors.new).is_over ≡ (E.tells doors.old).is_over }
@@ -174,23 +208,29 @@ fn join_ended<L: Left, E: Doors<L>, Q: Runner<E::Give, E::Take, L>, R: Threads +
 }
 
 /// Waits for each session, and gives its run back.
-fn join_all<L: Left, E: Doors<L>, Q: Runner<E::Give, E::Take, L>, R: Threads + Wait + Copy>(
+fn join_all<
+    P: Spawner + Send + 'static,
+    C: Clock + Send + 'static,
+    T: Stopper + Send + 'static,
+    R: Wait + Threads + Copy + Send + Sync + 'static,
+    E: Doors<SessionLeft<R>>,
+>(
     rt: R,
     doors: &mut E,
-    runner: &mut Q,
-    first: &Snapshot<Q>,
-    sessions: &mut Vec<Session<E::Give, E::Take, L, Q>>,
+    runner: &mut SessionRunner<P, C, T, R>,
+    first: &Snapshot<SessionRunner<P, C, T, R>>,
+    sessions: &mut Vec<Session<E::Give, E::Take, P, C, T, R>>,
     flags: &mut Vec<Arc<AtomicBool, Global>>,
 )
-    requires tells { Tells Q.comes_to (Q.tells first.now.value).setup (E.tells doors.old) }
-    requires counts { CountedBy L.tells (Q.tells first.now.value)
-        (Q.tells runner.old) (E.tells doors.old) }
-    requires out { AreOut E.Give.tells E.Take.tells Q.tells (Q.tells first.now.value).setup
+    requires tells { Tells (CameTo E.Give) first.now.value.setup (E.tells doors.old) }
+    requires counts { CountedBy first.now.value
+        runner.old (E.tells doors.old) }
+    requires out { AreOut E.Give.tells E.Take.tells first.now.value.setup
         (E.tells doors.old) None sessions.old.items }
     requires room { HasRoom sessions.old flags.old }
-    ensures tells { Tells Q.comes_to (Q.tells first.now.value).setup (E.tells doors.new) }
-    ensures counts { CountedBy L.tells (Q.tells first.now.value)
-        (Q.tells runner.new) (E.tells doors.new) }
+    ensures tells { Tells (CameTo E.Give) first.now.value.setup (E.tells doors.new) }
+    ensures counts { CountedBy first.now.value
+        runner.new (E.tells doors.new) }
     ensures out { (E.tells doors.new).out ≡ [] }
     ensures over { (E.tells doors.new).is_over ≡ (E.tells doors.old).is_over }
 {
@@ -200,22 +240,28 @@ fn join_all<L: Left, E: Doors<L>, Q: Runner<E::Give, E::Take, L>, R: Threads + W
 }
 
 /// Turns a visit away, where 32 others are out.
-fn turn_away<L: Left, E: Doors<L>, Q: Runner<E::Give, E::Take, L>>(
+fn turn_away<
+    P: Spawner + Send + 'static,
+    C: Clock + Send + 'static,
+    T: Stopper + Send + 'static,
+    R: Wait + Threads + Copy + Send + Sync + 'static,
+    E: Doors<SessionLeft<R>>,
+>(
     doors: &mut E,
-    runner: &Q,
-    first: &Snapshot<Q>,
+    runner: &SessionRunner<P, C, T, R>,
+    first: &Snapshot<SessionRunner<P, C, T, R>>,
     ends: Ends<E::Give, E::Take>,
 )
-    requires tells { Tells Q.comes_to (Q.tells first.now.value).setup (E.tells doors.old) }
-    requires counts { CountedBy L.tells (Q.tells first.now.value)
-        (Q.tells runner.now) (E.tells doors.old) }
+    requires tells { Tells (CameTo E.Give) first.now.value.setup (E.tells doors.old) }
+    requires counts { CountedBy first.now.value
+        runner.now (E.tells doors.old) }
     requires out { Holds ends.number (E.tells doors.old).out }
     requires full { length (E.tells doors.old).out ≡ 33 }
-    requires fresh { AreFresh (Q.tells first.now.value).setup.limits.copies
+    requires fresh { AreFresh first.now.value.setup.limits.copies
         (ends_told E.Give.tells E.Take.tells ends) }
-    ensures tells { Tells Q.comes_to (Q.tells first.now.value).setup (E.tells doors.new) }
-    ensures counts { CountedBy L.tells (Q.tells first.now.value)
-        (Q.tells runner.now) (E.tells doors.new) }
+    ensures tells { Tells (CameTo E.Give) first.now.value.setup (E.tells doors.new) }
+    ensures counts { CountedBy first.now.value
+        runner.now (E.tells doors.new) }
     ensures out { (E.tells doors.new).out ≡ without ends.number (E.tells doors.old).out }
     ensures keeps { KeepsTold (E.tells doors.old) (E.tells doors.new) }
     ensures over { (E.tells doors.new).is_over ≡ (E.tells doors.old).is_over }
@@ -226,61 +272,73 @@ fn turn_away<L: Left, E: Doors<L>, Q: Runner<E::Give, E::Take, L>>(
 }
 
 /// Runs the session of a visit here, and gives its run back.
-fn serve_here<L: Left, E: Doors<L>, Q: Runner<E::Give, E::Take, L>>(
+fn serve_here<
+    P: Spawner + Send + 'static,
+    C: Clock + Send + 'static,
+    T: Stopper + Send + 'static,
+    R: Wait + Threads + Copy + Send + Sync + 'static,
+    E: Doors<SessionLeft<R>>,
+>(
     alloc: Global,
     doors: &mut E,
-    runner: &mut Q,
-    first: &Snapshot<Q>,
+    runner: &mut SessionRunner<P, C, T, R>,
+    first: &Snapshot<SessionRunner<P, C, T, R>>,
     side: Side,
     ends: Ends<E::Give, E::Take>,
 )
-    requires tells { Tells Q.comes_to (Q.tells first.now.value).setup (E.tells doors.old) }
-    requires counts { CountedBy L.tells (Q.tells first.now.value)
-        (Q.tells runner.old) (E.tells doors.old) }
+    requires tells { Tells (CameTo E.Give) first.now.value.setup (E.tells doors.old) }
+    requires counts { CountedBy first.now.value
+        runner.old (E.tells doors.old) }
     requires out { Holds ends.number (E.tells doors.old).out }
-    requires fresh { AreFresh (Q.tells first.now.value).setup.limits.copies
+    requires fresh { AreFresh first.now.value.setup.limits.copies
         (ends_told E.Give.tells E.Take.tells ends) }
-    requires given { (told : List (Entry L)) → (E.tells doors.old).told ≡ Some told
+    requires given { (told : List (Entry (SessionLeft R))) → (E.tells doors.old).told ≡ Some told
         → Has (Gave side (ends_told E.Give.tells E.Take.tells ends)) told }
-    ensures tells { Tells Q.comes_to (Q.tells first.now.value).setup (E.tells doors.new) }
-    ensures counts { CountedBy L.tells (Q.tells first.now.value)
-        (Q.tells runner.new) (E.tells doors.new) }
+    ensures tells { Tells (CameTo E.Give) first.now.value.setup (E.tells doors.new) }
+    ensures counts { CountedBy first.now.value
+        runner.new (E.tells doors.new) }
     ensures out { (E.tells doors.new).out ≡ without ends.number (E.tells doors.old).out }
     ensures keeps { KeepsTold (E.tells doors.old) (E.tells doors.new) }
     ensures over { (E.tells doors.new).is_over ≡ (E.tells doors.old).is_over }
 {
     let number = ends.number;
     let handed = Snapshot::of(&ends);
-    let ended = runner.run(alloc, side, ends);
+    let ended = run_visit(runner, alloc, side, ends);
     hand_back(doors, first, side, handed, number, ended);
 }
 
 /// Serves a visit that has come: a session of its own, or turned away where 32 others are out.
-fn take_in<L: Left, E: Doors<L>, Q: Runner<E::Give, E::Take, L>, R: Threads + Wait + Copy>(
+fn take_in<
+    P: Spawner + Send + 'static,
+    C: Clock + Send + 'static,
+    T: Stopper + Send + 'static,
+    R: Wait + Threads + Copy + Send + Sync + 'static,
+    E: Doors<SessionLeft<R>>,
+>(
     rt: R,
     alloc: Global,
     doors: &mut E,
-    runner: &mut Q,
-    first: &Snapshot<Q>,
+    runner: &mut SessionRunner<P, C, T, R>,
+    first: &Snapshot<SessionRunner<P, C, T, R>>,
     side: Side,
     ends: Ends<E::Give, E::Take>,
-    sessions: &mut Vec<Session<E::Give, E::Take, L, Q>>,
+    sessions: &mut Vec<Session<E::Give, E::Take, P, C, T, R>>,
     flags: &mut Vec<Arc<AtomicBool, Global>>,
 )
-    requires tells { Tells Q.comes_to (Q.tells first.now.value).setup (E.tells doors.old) }
-    requires counts { CountedBy L.tells (Q.tells first.now.value)
-        (Q.tells runner.old) (E.tells doors.old) }
-    requires out { AreOut E.Give.tells E.Take.tells Q.tells (Q.tells first.now.value).setup
+    requires tells { Tells (CameTo E.Give) first.now.value.setup (E.tells doors.old) }
+    requires counts { CountedBy first.now.value
+        runner.old (E.tells doors.old) }
+    requires out { AreOut E.Give.tells E.Take.tells first.now.value.setup
         (E.tells doors.old) (Some ends.number) sessions.old.items }
-    requires fresh { AreFresh (Q.tells first.now.value).setup.limits.copies
+    requires fresh { AreFresh first.now.value.setup.limits.copies
         (ends_told E.Give.tells E.Take.tells ends) }
-    requires given { (told : List (Entry L)) → (E.tells doors.old).told ≡ Some told
+    requires given { (told : List (Entry (SessionLeft R))) → (E.tells doors.old).told ≡ Some told
         → Has (Gave side (ends_told E.Give.tells E.Take.tells ends)) told }
     requires room { HasRoom sessions.old flags.old }
-    ensures tells { Tells Q.comes_to (Q.tells first.now.value).setup (E.tells doors.new) }
-    ensures counts { CountedBy L.tells (Q.tells first.now.value)
-        (Q.tells runner.new) (E.tells doors.new) }
-    ensures out { AreOut E.Give.tells E.Take.tells Q.tells (Q.tells first.now.value).setup
+    ensures tells { Tells (CameTo E.Give) first.now.value.setup (E.tells doors.new) }
+    ensures counts { CountedBy first.now.value
+        runner.new (E.tells doors.new) }
+    ensures out { AreOut E.Give.tells E.Take.tells first.now.value.setup
         (E.tells doors.new) None sessions.new.items }
     ensures over { (E.tells doors.new).is_over ≡ (E.tells doors.old).is_over }
     ensures room { HasRoom sessions.new flags.new }
@@ -289,7 +347,7 @@ fn take_in<L: Left, E: Doors<L>, Q: Runner<E::Give, E::Take, L>, R: Threads + Wa
         turn_away(doors, runner, first, ends);
         return;
     };
-    let (Some(theirs), Ok(shared)) = (runner.another(), Arc::try_clone(&flag)) else {
+    let (Some(theirs), Ok(shared)) = (another_runner(runner), Arc::try_clone(&flag)) else {
         flags.push_reserved(flag);
         serve_here(alloc, doors, runner, first, side, ends);
         return;
@@ -313,31 +371,37 @@ fn take_in<L: Left, E: Doors<L>, Q: Runner<E::Give, E::Take, L>, R: Threads + Wa
 }
 
 /// Joins the sessions that have ended, and then serves a visit that has come.
-fn receive<L: Left, E: Doors<L>, Q: Runner<E::Give, E::Take, L>, R: Threads + Wait + Copy>(
+fn receive<
+    P: Spawner + Send + 'static,
+    C: Clock + Send + 'static,
+    T: Stopper + Send + 'static,
+    R: Wait + Threads + Copy + Send + Sync + 'static,
+    E: Doors<SessionLeft<R>>,
+>(
     rt: R,
     alloc: Global,
     doors: &mut E,
-    runner: &mut Q,
-    first: &Snapshot<Q>,
+    runner: &mut SessionRunner<P, C, T, R>,
+    first: &Snapshot<SessionRunner<P, C, T, R>>,
     side: Side,
     ends: Ends<E::Give, E::Take>,
-    sessions: &mut Vec<Session<E::Give, E::Take, L, Q>>,
+    sessions: &mut Vec<Session<E::Give, E::Take, P, C, T, R>>,
     flags: &mut Vec<Arc<AtomicBool, Global>>,
 )
-    requires tells { Tells Q.comes_to (Q.tells first.now.value).setup (E.tells doors.old) }
-    requires counts { CountedBy L.tells (Q.tells first.now.value)
-        (Q.tells runner.old) (E.tells doors.old) }
-    requires out { AreOut E.Give.tells E.Take.tells Q.tells (Q.tells first.now.value).setup
+    requires tells { Tells (CameTo E.Give) first.now.value.setup (E.tells doors.old) }
+    requires counts { CountedBy first.now.value
+        runner.old (E.tells doors.old) }
+    requires out { AreOut E.Give.tells E.Take.tells first.now.value.setup
         (E.tells doors.old) (Some ends.number) sessions.old.items }
-    requires fresh { AreFresh (Q.tells first.now.value).setup.limits.copies
+    requires fresh { AreFresh first.now.value.setup.limits.copies
         (ends_told E.Give.tells E.Take.tells ends) }
-    requires given { (told : List (Entry L)) → (E.tells doors.old).told ≡ Some told
+    requires given { (told : List (Entry (SessionLeft R))) → (E.tells doors.old).told ≡ Some told
         → Has (Gave side (ends_told E.Give.tells E.Take.tells ends)) told }
     requires room { HasRoom sessions.old flags.old }
-    ensures tells { Tells Q.comes_to (Q.tells first.now.value).setup (E.tells doors.new) }
-    ensures counts { CountedBy L.tells (Q.tells first.now.value)
-        (Q.tells runner.new) (E.tells doors.new) }
-    ensures out { AreOut E.Give.tells E.Take.tells Q.tells (Q.tells first.now.value).setup
+    ensures tells { Tells (CameTo E.Give) first.now.value.setup (E.tells doors.new) }
+    ensures counts { CountedBy first.now.value
+        runner.new (E.tells doors.new) }
+    ensures out { AreOut E.Give.tells E.Take.tells first.now.value.setup
         (E.tells doors.new) None sessions.new.items }
     ensures over { (E.tells doors.new).is_over ≡ (E.tells doors.old).is_over }
     ensures room { HasRoom sessions.new flags.new }
@@ -348,25 +412,31 @@ fn receive<L: Left, E: Doors<L>, Q: Runner<E::Give, E::Take, L>, R: Threads + Wa
 }
 
 /// Takes what comes next, and says whether that was Over.
-fn serve_visit<L: Left, E: Doors<L>, Q: Runner<E::Give, E::Take, L>, R: Threads + Wait + Copy>(
+fn serve_visit<
+    P: Spawner + Send + 'static,
+    C: Clock + Send + 'static,
+    T: Stopper + Send + 'static,
+    R: Wait + Threads + Copy + Send + Sync + 'static,
+    E: Doors<SessionLeft<R>>,
+>(
     rt: R,
     alloc: Global,
     doors: &mut E,
-    runner: &mut Q,
-    first: &Snapshot<Q>,
-    sessions: &mut Vec<Session<E::Give, E::Take, L, Q>>,
+    runner: &mut SessionRunner<P, C, T, R>,
+    first: &Snapshot<SessionRunner<P, C, T, R>>,
+    sessions: &mut Vec<Session<E::Give, E::Take, P, C, T, R>>,
     flags: &mut Vec<Arc<AtomicBool, Global>>,
 ) -> bool
-    requires tells { Tells Q.comes_to (Q.tells first.now.value).setup (E.tells doors.old) }
-    requires counts { CountedBy L.tells (Q.tells first.now.value)
-        (Q.tells runner.old) (E.tells doors.old) }
-    requires out { AreOut E.Give.tells E.Take.tells Q.tells (Q.tells first.now.value).setup
+    requires tells { Tells (CameTo E.Give) first.now.value.setup (E.tells doors.old) }
+    requires counts { CountedBy first.now.value
+        runner.old (E.tells doors.old) }
+    requires out { AreOut E.Give.tells E.Take.tells first.now.value.setup
         (E.tells doors.old) None sessions.old.items }
     requires room { HasRoom sessions.old flags.old }
-    ensures tells { Tells Q.comes_to (Q.tells first.now.value).setup (E.tells doors.new) }
-    ensures counts { CountedBy L.tells (Q.tells first.now.value)
-        (Q.tells runner.new) (E.tells doors.new) }
-    ensures out { AreOut E.Give.tells E.Take.tells Q.tells (Q.tells first.now.value).setup
+    ensures tells { Tells (CameTo E.Give) first.now.value.setup (E.tells doors.new) }
+    ensures counts { CountedBy first.now.value
+        runner.new (E.tells doors.new) }
+    ensures out { AreOut E.Give.tells E.Take.tells first.now.value.setup
         (E.tells doors.new) None sessions.new.items }
     ensures over { result ≡ true → (E.tells doors.new).is_over ≡ true }
     ensures room { HasRoom sessions.new flags.new }
@@ -430,27 +500,35 @@ fn make_flags(alloc: Global) -> Result<Vec<Arc<AtomicBool, Global>>, NoMemory>
 }
 
 /// Serves visits until the doors are over, at most 32 at once. NoMemory comes before the first visit is asked for.
-pub fn serve<L: Left, E: Doors<L>, Q: Runner<E::Give, E::Take, L>, R: Threads + Wait + Copy>(
+pub fn serve<
+    P: Spawner + Send + 'static,
+    C: Clock + Send + 'static,
+    T: Stopper + Send + 'static,
+    R: Wait + Threads + Copy + Send + Sync + 'static,
+    E: Doors<SessionLeft<R>>,
+>(
     rt: R,
     alloc: Global,
     doors: &mut E,
-    runner: &mut Q,
+    runner: &mut SessionRunner<P, C, T, R>,
 ) -> Result<(), NoMemory>
-    requires copies { (E.tells doors.old).copies ≡ Some (Q.tells runner.old).setup.limits.copies }
-    requires untold { (told : List (Entry L)) → (E.tells doors.old).told ≡ Some told → told ≡ [] }
+    requires copies { (E.tells doors.old).copies ≡ Some runner.old.setup.limits.copies }
+    requires untold { (told : List (Entry (SessionLeft R)))
+        → (E.tells doors.old).told ≡ Some told → told ≡ [] }
     requires none { (E.tells doors.old).out ≡ [] }
-    ensures served { (told : List (Entry L)) → (E.tells doors.new).told ≡ Some told
-        → IsServed Q.comes_to (Q.tells runner.old).setup told }
-    ensures ended { OnOk result ((told : List (Entry L)) → (E.tells doors.new).told ≡ Some told
+    ensures served { (told : List (Entry (SessionLeft R))) → (E.tells doors.new).told ≡ Some told
+        → IsServed (CameTo E.Give) runner.old.setup told }
+    ensures ended { OnOk result ((told : List (Entry (SessionLeft R)))
+        → (E.tells doors.new).told ≡ Some told
         → (n : ℕ) → times_given n told ≡ times_ended n told) }
-    ensures stopped { (told : List (Entry L)) → (E.tells doors.new).told ≡ Some told
-        → RoseBy (times_stopped L.tells told)
-        (Q.tells runner.old).yeses (Q.tells runner.new).yeses }
-    ensures unstarted { (told : List (Entry L)) → (E.tells doors.new).told ≡ Some told
-        → RoseBy (times_unstarted L.tells told)
-        (Q.tells runner.old).refusals (Q.tells runner.new).refusals }
-    ensures late { (told : List (Entry L)) → (E.tells doors.new).told ≡ Some told
-        → EachRun (IsWithin L.tells (Q.tells runner.new).span) told }
+    ensures stopped { (told : List (Entry (SessionLeft R))) → (E.tells doors.new).told ≡ Some told
+        → RoseBy (times_stopped told)
+        runner.old.yeses runner.new.yeses }
+    ensures unstarted { (told : List (Entry (SessionLeft R))) → (E.tells doors.new).told ≡ Some told
+        → RoseBy (times_unstarted told)
+        runner.old.refusals runner.new.refusals }
+    ensures late { (told : List (Entry (SessionLeft R))) → (E.tells doors.new).told ≡ Some told
+        → EachRun (IsWithin runner.new.span) told }
     ensures over { OnOk result ((E.tells doors.new).is_over ≡ true) }
     ensures out { OnOk result ((E.tells doors.new).out ≡ []) }
 {

@@ -1,4 +1,5 @@
 use Rattle.std.proofs.Common.{◌≡◌, None, vec_len}
+use Rattle.rd_run_session.specs.CameTo.{CameTo}
 use Rattle.rd_serve.specs.Serving.{Tells}
 use Rattle.rd_serve.specs.Counting.{CountedBy}
 use Rattle.rd_serve.specs.Sessions.{AreOut, HasRoom, KeepsTold}
@@ -6,9 +7,9 @@ use Rattle.rd_serve.proofs.server.join_all.Given as goal
 
 abbrev pub invariant-loop-rt : goal.invariant-loop-rt
 invariant-loop-rt g l =
-    Tells g.Q.Runner.comes_to (g.Q.Runner.tells l.first.value).setup (g.E.Doors.tells l.doors)
-    × CountedBy g.L.Left.tells (g.Q.Runner.tells l.first.value) (g.Q.Runner.tells l.runner) (g.E.Doors.tells l.doors)
-    × AreOut g.E.Give.Source.tells g.E.Take.Sink.tells g.Q.Runner.tells (g.Q.Runner.tells l.first.value).setup (g.E.Doors.tells l.doors) None l.sessions.items
+    Tells (CameTo g.row.E-Give.Denot) l.first.value.setup (g.E.Doors.tells l.doors)
+    × CountedBy l.first.value l.runner (g.E.Doors.tells l.doors)
+    × AreOut g.E.Give.Source.tells g.E.Take.Sink.tells l.first.value.setup (g.E.Doors.tells l.doors) None l.sessions.items
     × HasRoom l.sessions l.flags
     × ((g.E.Doors.tells l.doors).is_over ≡ (g.E.Doors.tells l.initial.doors).is_over)
     × KeepsTold (g.E.Doors.tells l.initial.doors) (g.E.Doors.tells l.doors)

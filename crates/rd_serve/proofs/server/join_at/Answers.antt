@@ -1,10 +1,20 @@
-use Rattle.rd_serve.proofs.Outs.{out_holds, out_left}
+use Rattle.rd_serve.proofs.Outs.{out_holds, out_is, out_left, keeps_promise}
 use Rattle.rd_serve.proofs.server.join_at.Goals as goal
 
 pub give_back-requires-clause-out : goal.give_back-requires-clause-out
 give_back-requires-clause-out g c κs within =
-    out_holds g.E.Give.Source.tells g.E.Take.Sink.tells g.Q.Runner.tells (g.Q.Runner.tells c.args.first.now.value).setup (g.E.Doors.tells c.args.doors.now) c.args.waiting c.args.sessions.now.items c.args.place c.remove-number.result c.requires.out c.requires.place c.remove-number.ensures.value
+    out_holds g.E.Give.Source.tells g.E.Take.Sink.tells c.args.first.now.value.setup (g.E.Doors.tells c.args.doors.now) c.args.waiting c.args.sessions.now.items c.args.place c.remove-number.result c.requires.out c.requires.place c.remove-number.ensures.value
 
 pub returns-clause-out : goal.returns-clause-out
 returns-clause-out g c =
-    out_left g.E.Give.Source.tells g.E.Take.Sink.tells g.Q.Runner.tells (g.Q.Runner.tells c.args.first.now.value).setup (g.E.Doors.tells c.args.doors.now) (g.E.Doors.tells c.give_back.new.doors) c.args.waiting c.args.sessions.now.items c.remove-number.new.self.items c.args.place c.remove-number.result c.requires.out c.requires.place c.remove-number.ensures.value c.remove-number.ensures.by_index.2 c.give_back.ensures.out c.give_back.ensures.keeps
+    out_left g.E.Give.Source.tells g.E.Take.Sink.tells c.args.first.now.value.setup (g.E.Doors.tells c.args.doors.now) (g.E.Doors.tells c.give_back.new.doors) c.args.waiting c.args.sessions.now.items c.remove-number.new.self.items c.args.place c.remove-number.result c.requires.out c.requires.place c.remove-number.ensures.value c.remove-number.ensures.by_index.2 c.give_back.ensures.out c.give_back.ensures.keeps
+
+pub give_back-requires-clause-given : goal.give_back-requires-clause-given
+give_back-requires-clause-given g c κs within =
+    (out_is g.E.Give.Source.tells g.E.Take.Sink.tells c.args.first.now.value.setup (g.E.Doors.tells c.args.doors.now) c.args.waiting c.args.sessions.now.items c.args.place c.remove-number.result c.requires.out c.requires.place c.remove-number.ensures.value).given
+
+pub give_back-requires-clause-kept : goal.give_back-requires-clause-kept
+give_back-requires-clause-kept g c κs within =
+    keeps_promise g.E.Give.Source.tells g.E.Take.Sink.tells c.args.first.now.value.setup (g.E.Doors.tells c.args.doors.now) c.remove-number.result c.join-served.result
+    (out_is g.E.Give.Source.tells g.E.Take.Sink.tells c.args.first.now.value.setup (g.E.Doors.tells c.args.doors.now) c.args.waiting c.args.sessions.now.items c.args.place c.remove-number.result c.requires.out c.requires.place c.remove-number.ensures.value)
+    c.join-served.ensures

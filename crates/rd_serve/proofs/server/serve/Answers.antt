@@ -1,4 +1,5 @@
 use Rattle.std.proofs.Common.{sym, ◌∙◌}
+use Rattle.rd_run_session.specs.CameTo.{CameTo}
 use Rattle.rd_serve.proofs.Times.{all_ended}
 use Rattle.rd_serve.proofs.server.serve.Goals as goal
 
@@ -13,4 +14,4 @@ loop-preserved g c = (
 
 pub returns-clause-ended : goal.returns-clause-ended
 returns-clause-ended g c told is n =
-    all_ended g.Q.Runner.comes_to _ n told (c.join_all.ensures.tells.served told is) (sym (c.join_all.ensures.tells.out told is) ∙ c.join_all.ensures.out)
+    all_ended (CameTo g.row.E-Give.Denot) _ n told (c.join_all.ensures.tells.served told is) (sym (c.join_all.ensures.tells.out told is) ∙ c.join_all.ensures.out)

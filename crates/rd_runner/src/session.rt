@@ -1,7 +1,5 @@
-ghost use Rattle.std.specs.Prelude.{◌≡◌};
-ghost use Rattle.rd_runner.specs.declared.left.Summary.{Summary};
-
 use rd_base::Ending;
+use rd_doors::Run;
 
 /// What a session came to, in numbers.
 #[derive(Clone, Copy, Debug, PartialEq, Eq)]
@@ -17,10 +15,9 @@ pub struct Summary {
     pub masked: u32,
 }
 
-/// What a session leaves beside its links.
-pub trait Left: Drop + Send + 'static {
-    ghost tells: { Self → Summary };
-
-    fn summary(&self) -> Summary
-        ensures { result ≡ tells self.now };
+/// A session that has ended, with the sinks of its links in their order.
+#[derive(Drop)]
+pub struct Ended<S, K, L> {
+    pub run: Run<S, L>,
+    pub sinks: Vec<K>,
 }
