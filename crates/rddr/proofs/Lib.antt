@@ -1,3 +1,4 @@
 mod Files
 mod Refused
 mod Dialects
+mod Joining

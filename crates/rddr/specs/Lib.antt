@@ -1,3 +1,4 @@
 pub mod Forms
 pub mod Outcome
 pub mod Works
+pub mod Serving

@@ -11,6 +11,8 @@ mod refusal;
 mod replay;
 #[cfg(test)]
 mod rows;
+mod service;
+mod serving;
 #[cfg(test)]
 mod settings_tests;
 mod std_sink;
@@ -19,21 +21,48 @@ mod tests;
 mod work;
 
 use disk_files::DiskFiles;
+use rd_base::NoMemory;
 use replay::replay_main;
+use service::{Commands, read_lines, serve_over_tcp};
 use std::alloc::{AllocError, Global};
 use std::io::ErrorKind;
 use std::process::ExitCode;
-use std::{env, io};
+use std::{env, io, thread};
 use std_sink::StdSink;
 
 fn main(rt: HostRuntime) -> ExitCode {
     let mut files = DiskFiles::new(&rt);
     let mut out = StdSink::new(io::writer(&rt));
     let status = match words(&rt) {
+        Ok(words) if is_run(words.as_slice()) => match Commands::new(rt.alloc()) {
+            Ok(commands) => {
+                // It isn't joined, since it may wait for one more line.
+                let theirs = commands.share();
+                match thread::spawn(&rt, move || read_lines(rt, theirs)) {
+                    Ok(_watching) => serve_over_tcp(
+                        rt,
+                        rt.alloc(),
+                        words.as_slice(),
+                        &mut files,
+                        &mut out,
+                        commands,
+                    ),
+                    Err(_) => 6,
+                }
+            }
+            Err(NoMemory) => 6,
+        },
         Ok(words) => replay_main(rt.alloc(), words.as_slice(), &mut files, &mut out),
         Err(AllocError) => 6,
     };
     ExitCode::from(status)
+}
+
+fn is_run(words: &[String]) -> bool {
+    match words.first() {
+        Some(command) => command.as_str() == "run",
+        None => false,
+    }
 }
 
 /// The words behind the program's name; none where one of them isn't text.

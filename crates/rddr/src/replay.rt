@@ -254,11 +254,37 @@ fn generate_and_run<K: Sink>(
     Ok(status_of(summary.ending))
 }
 
+/// Prints why nothing is served, and gives the status: 2 or 3 where it was printed, 4 where a file couldn't be read, 5
+/// where the output failed and 6 where memory ran out.
+pub fn refuse_to_serve<K: Sink>(alloc: Global, refusal: Refusal, out: &mut K) -> u8
+    requires { (K.tells out.old).is_closed ≡ false }
+    ensures least { 2 ≤ result }
+    ensures most { result ≤ 6 }
+    ensures told { result ≤ 3 → is_told refusal ≡ true }
+    ensures status { result ≤ 3 → result ≡ (refusal_outcome refusal).status }
+    ensures text { result ≤ 3 → (K.tells out.new).held ≡ held_with (K.tells out.old).held
+        (refusal_outcome refusal).text }
+    ensures prefix { HoldsPrefix (K.tells out.old).held (K.tells out.new).held
+        (refusal_outcome refusal).text }
+    ensures silent { is_told refusal ≡ false → (K.tells out.new).held ≡ (K.tells out.old).held }
+    ensures four { result ≡ 4 → refusal ≡ Refusal.Unread }
+    ensures five { result ≡ 5 → Rose (K.tells out.old).faults (K.tells out.new).faults }
+    ensures stays { StaysOpen (K.tells out.old) (K.tells out.new) }
+{
+    match refuse(alloc, refusal, out) {
+        Ok(given) => given,
+        Err(Fault::ReadFail) => 4,
+        Err(Fault::WriteFail) => 5,
+        Err(Fault::NoMemory) => 6,
+    }
+}
+
 /// Prints why nothing is run.
 fn refuse<K: Sink>(alloc: Global, refusal: Refusal, out: &mut K) -> Result<u8, Fault>
     requires { (K.tells out.old).is_closed ≡ false }
     ensures told { OnOk result (is_told refusal ≡ true) }
     ensures status { IfOk result (λ status. status ≡ (refusal_outcome refusal).status) }
+    ensures least { IfOk result (λ status. 2 ≤ status) }
     ensures range { IfOk result (λ status. status ≤ 3) }
     ensures two { IfOk result (λ status. (status ≡ 2) ↔ (refusal ≡ Refusal.Words)) }
     ensures text { OnOk result ((K.tells out.new).held ≡ held_with (K.tells out.old).held

@@ -92,7 +92,11 @@ fn work_for<F: Files>(alloc: Global, command: Command, files: &mut F) -> Result<
 }
 
 /// The settings that the file of this name has.
-fn settings_file<F: Files>(alloc: Global, name: &str, files: &mut F) -> Result<Settings, Refusal>
+pub(crate) fn settings_file<F: Files>(
+    alloc: Global,
+    name: &str,
+    files: &mut F,
+) -> Result<Settings, Refusal>
     ensures limits { IfOk result (λ settings. AreLimits settings.limits) }
     ensures settings { IfOk result (λ settings. (all : List NamedFile) → (F.tells files.old).files
         ≡ Some all → settings_of_file (file_of name.now all) ≡ Ok settings) }

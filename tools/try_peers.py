@@ -1,0 +1,615 @@
+#!/usr/bin/env python3
+"""Tries `rddr run` between real clients and real servers on 127.0.0.1, and compares with what comes without it.
+
+- `http`: curl, and wrk with 32 connections and a 33rd, before three nginx.
+- `browser`: headless Chromium fetches a form from the three nginx and posts it.
+- `postgres`: psql, `pgbench -S` in its three query modes, pgbench's own script with one client, and psycopg2, before
+  three PostgreSQL servers, of which one then loses a backend to a KILL.
+- `calls`: three curl and three psql call one nginx and one PostgreSQL server through the outgoing side.
+- `trouble`: a port that is taken, a client that stops reading, one that sends a byte a second, 200 clients at once, a
+  backend that closes, an instance that is killed amid a reply, one that is down; what stays open behind them, and what
+  32 idle sessions cost.
+
+Words choose parts; without any all are tried. What isn't installed (Debian's nginx-light, wrk, chromium, postgresql,
+python3-psycopg2) is named and left out.
+"""
+
+import argparse
+import http.client
+import http.server
+import os
+import pwd
+import re
+import shutil
+import signal
+import socket
+import subprocess
+import sys
+import tempfile
+import time
+
+import record_http
+import record_postgres
+from recording import HOST, ROOT, free_port, wait_for_port
+
+PARTS = ("http", "browser", "postgres", "calls", "trouble")
+COPIES = 3
+SESSIONS = 32
+MEGA_LINES = 65_536  # of 16 bytes each
+
+
+class Proxy:
+    """A running `rddr run`, before these instances or behind these callers."""
+
+    def __init__(self, program, folder, dialect, instances, backend=None, **limits):
+        self.port = free_port()
+        self.callers = [free_port() for _ in range(COPIES)] if backend else []
+        lines = ["version = 2", f"copies = {COPIES}", f'incoming = "{dialect}"', f'outgoing = "{dialect}"']
+        lines += [f"{key} = {value}" for key, value in limits.items()]
+        lines += ["[ports]", f'listen = "{HOST}:{self.port}"', f"instances = {addresses(instances)}"]
+        if backend:
+            lines += [f"callers = {addresses(self.callers)}", f'backend = "{HOST}:{backend}"']
+        self.settings = os.path.join(folder, f"{self.port}.toml")
+        with open(self.settings, "w", encoding="ascii") as file:
+            file.write("\n".join(lines) + "\n")
+        self.process = subprocess.Popen([program, "run", self.settings], stdin=subprocess.PIPE)
+        for _ in range(20):
+            if wait_for_port(self.port):
+                break
+        else:
+            sys.exit("rddr did not serve")
+        self.idle = self.settled()
+
+    def served(self):
+        """The process that serves, and not the shell that started it."""
+        shell = os.readlink(f"/proc/{self.process.pid}/exe")
+        with open(f"/proc/{self.process.pid}/task/{self.process.pid}/children", encoding="ascii") as file:
+            children = file.read().split()
+        return next((int(one) for one in children if os.readlink(f"/proc/{one}/exe") != shell), self.process.pid)
+
+    def counts(self):
+        """How many threads and descriptors it has."""
+        pid = self.served()
+        return len(os.listdir(f"/proc/{pid}/task")), len(os.listdir(f"/proc/{pid}/fd"))
+
+    def settled(self, due=None):
+        """These counts, once they are those that are due, or stay the same."""
+        seen = self.counts()
+        for _ in range(80):
+            time.sleep(0.5)
+            before, seen = seen, self.counts()
+            if seen == due or (due is None and seen == before):
+                break
+        return seen
+
+    def processor_seconds(self):
+        with open(f"/proc/{self.served()}/stat", encoding="ascii") as file:
+            fields = file.read().rsplit(")", 1)[1].split()
+        return (int(fields[11]) + int(fields[12])) / os.sysconf("SC_CLK_TCK")
+
+    def stop(self, results):
+        """Stops it as an operator does."""
+        began = time.monotonic()
+        self.process.send_signal(signal.SIGTERM)
+        status = self.process.wait(30)
+        seconds = time.monotonic() - began
+        results.say("a stop", status == 0 and seconds < 5, f"status {status} after {seconds:.1f} s")
+
+
+def addresses(ports):
+    return "[" + ", ".join(f'"{HOST}:{port}"' for port in ports) + "]"
+
+
+class Results:
+    """What was seen, a line each; `wrong` counts what went otherwise."""
+
+    def __init__(self):
+        self.wrong = 0
+
+    def say(self, name, holds, text=""):
+        self.wrong += not holds
+        print(f"{'ok   ' if holds else 'WRONG'} {name}{': ' if text else ''}{text}", flush=True)
+
+    def same(self, name, through, without):
+        shown = "" if through == without else f"{through[-300:]!r} for {without[-300:]!r}"
+        self.say(name, through == without, shown)
+
+
+def run(words, **more):
+    """A command's output and status."""
+    done = subprocess.run(words, stdout=subprocess.PIPE, stderr=subprocess.STDOUT, timeout=90, check=False, **more)
+    return done.stdout + b"\nstatus %d" % done.returncode
+
+
+def is_here(*programs):
+    missing = [name for name in programs if not shutil.which(name)]
+    if missing:
+        print(f"left out: {', '.join(missing)} not installed", flush=True)
+    return not missing
+
+
+# ---- HTTP
+
+
+class WebServers:
+    """Three equal nginx before one small application."""
+
+    def __init__(self, folder):
+        self.site = record_http.make_site(folder)
+        with open(os.path.join(self.site, "mega.txt"), "w", encoding="ascii") as file:
+            file.write("".join(f"{n:015}\n" for n in range(MEGA_LINES)))
+        self.application = record_http.start_application(self.site)
+        self.servers = []
+        for number in range(COPIES):
+            own = os.path.join(folder, f"nginx-{number}")
+            os.mkdir(own)
+            os.chmod(own, 0o777)
+            self.servers.append(record_http.start_server("nginx", own, self.site, self.application.server_port))
+
+    def ports(self):
+        return [port for _, port in self.servers]
+
+    def end(self):
+        for server, _ in self.servers:
+            server.terminate()
+            server.wait(20)
+        self.application.shutdown()
+
+
+def curl(port, words, folder):
+    """What curl prints of these words: of each URL its body and its status. Parts of several ranges stand between words
+    that each nginx counts by itself."""
+    given = [word.replace("URL", f"http://{HOST}:{port}", 1) for word in words]
+    text = run(["curl", "-q", "-s", "--max-time", "50", "-w", "\n%{http_code}\n", *given], cwd=folder)
+    return re.sub(rb"0{12,}\d+", b"PART", text.replace(f":{port}".encode(), b":PORT"))
+
+
+def try_curl(results, proxy, servers, folder):
+    mega = os.path.join(servers.site, "mega.txt")
+    sessions = record_http.curl_sessions(servers.site)
+    sessions += [("1 MiB", ["URL/mega.txt"]), ("1 MiB posted", ["--data-binary", f"@{mega}", "URL/app/echo"])]
+    for name, words in sessions:
+        # A head has a date, so only the status is compared.
+        if name == "head":
+            words = ["-I", "-o", os.devnull, *words[1:2]]
+        alone = [curl(port, words, folder) for port in servers.ports()]
+        results.same(f"curl, {name}", curl(proxy.port, words, folder), alone[0])
+
+
+def try_wrk(results, proxy):
+    results.same("sessions are over", proxy.settled(proxy.idle), proxy.idle)
+    # One second alone: nginx closes a connection at its 1,000th request, and one that comes anew is turned away while
+    # the session before it still ends.
+    text = run(["wrk", "-t2", f"-c{SESSIONS}", "-d1s", "--timeout", "20s", f"http://{HOST}:{proxy.port}/index.html"])
+    lines = text.decode().splitlines()
+    faults = [line.strip() for line in lines if "Non-2xx" in line or "Socket errors" in line]
+    rate = [line.strip() for line in lines if "Requests/sec" in line]
+    results.say(f"wrk, {SESSIONS} connections", rate and not faults, "; ".join(rate + faults) or text.decode())
+    results.same("sessions are over", proxy.settled(proxy.idle), proxy.idle)
+    idle = [socket.create_connection((HOST, proxy.port)) for _ in range(SESSIONS)]
+    time.sleep(1)
+    with socket.create_connection((HOST, proxy.port)) as one_more:
+        one_more.settimeout(5)
+        results.say("a 33rd client is turned away", one_more.recv(1) == b"")
+    for one in idle:
+        one.close()
+
+
+def try_http(results, program, folder):
+    if not is_here("nginx", "curl"):
+        return
+    servers = WebServers(folder)
+    try:
+        proxy = Proxy(program, folder, "http", servers.ports(), unit_max=4_194_304, gather_ms=60_000)
+        try_curl(results, proxy, servers, folder)
+        if is_here("wrk"):
+            try_wrk(results, proxy)
+        proxy.stop(results)
+    finally:
+        servers.end()
+
+
+def try_browser(results, program, folder):
+    if not is_here("nginx", "chromium"):
+        return
+    servers = WebServers(folder)
+    try:
+        proxy = Proxy(program, folder, "http", servers.ports())
+        words = ["--headless", "--no-sandbox", "--disable-gpu", "--disable-dev-shm-usage", "--no-first-run",
+                 "--disable-background-networking", "--disable-component-update", "--disable-sync",
+                 "--host-resolver-rules=MAP * ~NOTFOUND , EXCLUDE 127.0.0.1", "--virtual-time-budget=8000"]
+        pages = []
+        for number, port in enumerate((proxy.port, servers.ports()[0])):
+            own = [f"--user-data-dir={folder}/chromium-{number}", "--dump-dom", f"http://{HOST}:{port}/app/form"]
+            shown = run(["chromium", *words, *own], cwd=folder, env={**os.environ, "HOME": folder})
+            pages += re.findall(rb"Ordered:.*", shown) or [shown]
+        results.say("chromium posts a form", pages[0].startswith(b"Ordered:"), pages[0].decode(errors="replace")[-300:])
+        results.same("chromium, the page behind the form", *(re.sub(rb"[0-9a-f]{16,}", b"TOKEN", one) for one in pages))
+        proxy.stop(results)
+    finally:
+        servers.end()
+
+
+# ---- PostgreSQL
+
+
+class Databases:
+    """Equal PostgreSQL servers, with pgbench's tables."""
+
+    def __init__(self, folder, count):
+        self.programs = record_postgres.find_programs()
+        user = pwd.getpwnam("postgres") if os.getuid() == 0 else pwd.getpwuid(os.getuid())
+        self.servers, self.ports = [], []
+        for number in range(count):
+            own = os.path.join(folder, f"postgres-{number}")
+            os.mkdir(own)
+            os.chown(own, user.pw_uid, user.pw_gid)
+            self.ports.append(free_port())
+            self.servers.append(record_postgres.start_server(self.programs, user, own, self.ports[-1]))
+            self.call(self.ports[-1], "pgbench", "-i", "-q")
+
+    def environment(self, port):
+        return {"PATH": os.environ["PATH"], "PGHOST": HOST, "PGPORT": str(port), "PGUSER": "rddr",
+                "PGDATABASE": "postgres", "LC_ALL": "C", "PGGSSENCMODE": "disable"}
+
+    def call(self, port, program, *words):
+        return run([os.path.join(self.programs, program), *words], env=self.environment(port), cwd="/")
+
+    def ask(self, port, *queries):
+        return self.call(port, "psql", "-X", *(word for query in queries for word in ("-c", query)))
+
+    def end(self):
+        for server in self.servers:
+            server.send_signal(signal.SIGQUIT)
+            server.wait(20)
+
+
+QUERIES = ("select 1 as one", "select 1/0", "select n, repeat('x', n) from generate_series(1, 500) n",
+           "do $$ begin raise notice 'hello'; end $$", "select abalance from pgbench_accounts where aid = 7")
+
+DRIVER = """
+import psycopg2
+link = psycopg2.connect("")
+with link, link.cursor() as one:
+    one.execute("select %s::int + 1, %s::text, %s::date", (41, "caf\\u00e9", "2026-12-01"))
+    print(one.fetchall())
+    one.execute("create temporary table kept (n int, t text)")
+    one.executemany("insert into kept values (%s, %s)", [(n, "x" * n) for n in range(50)])
+    one.execute("select count(*), sum(length(t)) from kept")
+    print(one.fetchone())
+try:
+    with link, link.cursor() as one:
+        one.execute("insert into kept values (100, 'lost')")
+        one.execute("select no_such_column from kept")
+except psycopg2.Error as error:
+    print(error.pgcode, str(error).splitlines()[0])
+with link, link.cursor() as one:
+    one.execute("select max(n) from kept")
+    print(one.fetchone())
+link.close()
+"""
+
+
+def try_pgbench(results, databases, proxy):
+    for mode in ("simple", "extended", "prepared"):
+        text = databases.call(proxy.port, "pgbench", "-n", "-S", "-M", mode, "-c", "16", "-j", "2", "-T", "2")
+        rate = next((line for line in text.decode().splitlines() if line.startswith("tps")), text.decode())
+        results.say(f"pgbench -S -M {mode}, 16 clients", text.endswith(b"status 0"), rate)
+    text = databases.call(proxy.port, "pgbench", "-n", "-c", "1", "-t", "50")
+    results.say("pgbench, 1 client", text.endswith(b"status 0"), "" if text.endswith(b"0") else text.decode())
+    sums = "select count(*), sum(delta) from pgbench_history", "select sum(abalance) from pgbench_accounts"
+    without = [databases.ask(port, *sums) for port in databases.ports]
+    results.say("each instance wrote the same", without == without[:1] * COPIES and b"   50 |" in without[0])
+    results.same("and so it is read", databases.ask(proxy.port, *sums), without[0])
+
+
+def try_lost_backend(results, databases, proxy):
+    environment, psql = databases.environment(proxy.port), os.path.join(databases.programs, "psql")
+    words = [psql, "-X", "-c", "select pg_sleep(30)"]
+    waiting = subprocess.Popen(words, env=environment, stdout=subprocess.PIPE, stderr=subprocess.STDOUT, cwd="/")
+    mine = "select 'pid ' || pid from pg_stat_activity where query like 'select pg_sleep%'"
+    found = None
+    for _ in range(50):
+        found = found or re.search(rb"pid (\d+)", databases.ask(databases.ports[2], mine))
+        time.sleep(0.1)
+    began = time.monotonic()
+    os.kill(int(found[1]), signal.SIGKILL)
+    waiting.communicate(timeout=60)
+    seconds = time.monotonic() - began
+    results.say("an instance loses a backend amid a reply", waiting.returncode != 0 and seconds < 10,
+                f"psql ended with status {waiting.returncode} after {seconds:.1f} s")
+    for _ in range(100):
+        if databases.ask(databases.ports[2], "select 1").endswith(b"status 0"):
+            break
+        time.sleep(0.1)
+    results.same("psql once it is back", *(databases.ask(port, *QUERIES) for port in (proxy.port, databases.ports[0])))
+
+
+def try_postgres(results, program, folder):
+    if not record_postgres.find_programs():
+        print("left out: postgresql not installed", flush=True)
+        return
+    databases = Databases(folder, COPIES)
+    try:
+        proxy = Proxy(program, folder, "pg", databases.ports, gather_ms=40_000)
+        results.same("psql", *(databases.ask(port, *QUERIES) for port in (proxy.port, databases.ports[0])))
+        if run([sys.executable, "-c", "import psycopg2"]).endswith(b"status 0"):
+            seen = [run([sys.executable, "-c", DRIVER], env=databases.environment(port))
+                    for port in (proxy.port, databases.ports[0])]
+            results.same("psycopg2", *seen)
+            results.say("psycopg2, the last line", b"(49,)\n\nstatus 0" in seen[0])
+        else:
+            print("left out: python3-psycopg2 not installed", flush=True)
+        try_pgbench(results, databases, proxy)
+        try_lost_backend(results, databases, proxy)
+        results.same("sessions are over", proxy.settled(proxy.idle), proxy.idle)
+        proxy.stop(results)
+    finally:
+        databases.end()
+
+
+# ---- Calls
+
+
+def at_once(commands, **more):
+    """The outputs of commands that run at the same time."""
+    started = [subprocess.Popen(words, stdout=subprocess.PIPE, stderr=subprocess.STDOUT, **more) for words in commands]
+    return [process.communicate(timeout=60)[0] for process in started]
+
+
+def curls(ports, path):
+    return at_once([["curl", "-q", "-s", "--max-time", "40", f"http://{HOST}:{port}{path}"] for port in ports])
+
+
+def try_calls(results, program, folder):
+    if is_here("nginx", "curl"):
+        servers = WebServers(folder)
+        try:
+            proxy = Proxy(program, folder, "http", servers.ports(), servers.ports()[0], unit_max=4_194_304)
+            for path in ("/index.html", "/large.txt", "/data.json", "/nothing"):
+                due = curls(servers.ports()[:1], path) * COPIES
+                results.say(f"three curl call one nginx, {path}", curls(proxy.callers, path) == due)
+            proxy.stop(results)
+        finally:
+            servers.end()
+    if record_postgres.find_programs():
+        databases = Databases(folder, 1)
+        try:
+            port = databases.ports[0]
+            proxy = Proxy(program, folder, "pg", [port] * COPIES, port)
+            psql = os.path.join(databases.programs, "psql")
+            where = [f"host={HOST} port={one} user=rddr dbname=postgres gssencmode=disable" for one in proxy.callers]
+            call = "update pgbench_accounts set abalance = abalance + 1 where aid = 3 returning abalance"
+            for number in (1, 2):
+                seen = at_once([[psql, "-X", "-q", "-c", call, one] for one in where])
+                text = seen[0].decode()
+                is_one = len(set(seen)) == 1 and f"\n        {number}\n" in text
+                results.say(f"three psql, one update, {number}", is_one, "" if is_one else str(seen))
+            proxy.stop(results)
+        finally:
+            databases.end()
+
+
+# ---- Trouble
+
+
+class Instance(http.server.BaseHTTPRequestHandler):
+    """What a server in trouble answers: a page, half of one and then nothing, or nothing and an end."""
+
+    protocol_version = "HTTP/1.1"
+
+    def do_GET(self):
+        body = b"All is well.\n" if self.path != "/large" else b"A line of a large page.\n" * 640
+        if self.path == "/close":
+            self.close_connection = True
+            return
+        self.send_response(200)
+        self.send_header("Content-Length", str(len(body)))
+        self.end_headers()
+        if self.path == "/half":
+            self.wfile.write(body[:4])
+            time.sleep(60)
+        self.wfile.write(body)
+
+    def log_message(self, *_):
+        pass
+
+
+class Instances:
+    """Three such servers, each a process of its own."""
+
+    def __init__(self):
+        self.ports = [free_port() for _ in range(COPIES)]
+        self.processes = [self.start(port) for port in self.ports]
+
+    @staticmethod
+    def start(port):
+        process = subprocess.Popen([sys.executable, __file__, "--instance", str(port)], stdin=subprocess.DEVNULL,
+                                   stderr=subprocess.DEVNULL)
+        if not wait_for_port(port):
+            sys.exit("an instance did not start")
+        return process
+
+    def kill(self, number):
+        self.processes[number].kill()
+        self.processes[number].wait(20)
+
+    def begin_again(self, number):
+        self.processes[number] = self.start(self.ports[number])
+
+    def end(self):
+        for number in range(COPIES):
+            self.kill(number)
+
+
+def page(port, path="/"):
+    """What a client of its own gets: the status, or how it ended, and after how many seconds."""
+    began = time.monotonic()
+    link = http.client.HTTPConnection(HOST, port, timeout=30)
+    try:
+        link.request("GET", path)
+        seen = link.getresponse()
+        shown = (seen.status, len(seen.read()))
+    except (http.client.HTTPException, ConnectionError) as error:
+        shown = type(error).__name__
+    finally:
+        link.close()
+    return shown, time.monotonic() - began
+
+
+CLOSED = ("RemoteDisconnected", "ConnectionResetError", "BrokenPipeError")
+
+
+class Bystander:
+    """A client that keeps its connection, and is to be served all the while."""
+
+    def __init__(self, port):
+        self.link = http.client.HTTPConnection(HOST, port, timeout=30)
+
+    def is_served(self):
+        self.link.request("GET", "/")
+        seen = self.link.getresponse()
+        return (seen.status, seen.read()) == (200, b"All is well.\n") and self.link.sock is not None
+
+
+def seconds_to_close(link, most):
+    """How long until the peer has closed, and what it sent before."""
+    began = time.monotonic()
+    link.settimeout(most)
+    got = b""
+    try:
+        while more := link.recv(65_536):
+            got += more
+    except TimeoutError:
+        return None, got
+    except ConnectionError:
+        pass
+    return time.monotonic() - began, got
+
+
+def try_slow_clients(results, proxy, bystander):
+    unread = socket.socket()
+    unread.setsockopt(socket.SOL_SOCKET, socket.SO_RCVBUF, 4_096)
+    unread.connect((HOST, proxy.port))
+    unread.sendall(b"GET /large HTTP/1.1\r\nHost: a\r\n\r\n" * 400)
+    slow = socket.create_connection((HOST, proxy.port))
+    began = time.monotonic()
+    for byte in b"GET / HTTP/1.1\r\n":
+        try:
+            slow.sendall(bytes([byte]))
+        except ConnectionError:
+            break
+        results.wrong += not bystander.is_served()
+        time.sleep(1)
+    seconds = time.monotonic() - began
+    results.say("a client that sends a byte a second", 2 <= seconds < 6, f"closed after {seconds:.0f} s")
+    due = (proxy.idle[0] + COPIES + 2, proxy.idle[1] + COPIES + 1)
+    results.same("a client that stops reading: its session is over", proxy.settled(due), due)
+    results.say("others beside them", bystander.is_served())
+    slow.close()
+    unread.close()
+
+
+def try_many(results, proxy, bystander):
+    many = [socket.create_connection((HOST, proxy.port)) for _ in range(200)]
+    for one in many:
+        one.sendall(b"GET / HTTP/1.1\r\nHost: a\r\nConnection: close\r\n\r\n")
+    ended = [seconds_to_close(one, 20) for one in many]
+    served = sum(b"All is well." in got for _, got in ended)
+    turned = sum(got == b"" and seconds is not None for seconds, got in ended)
+    for one in many:
+        one.close()
+    results.say("200 clients at once", served >= SESSIONS - 1 and served + turned == 200,
+                f"{served} served, {turned} turned away")
+    results.say("others beside them", bystander.is_served())
+
+
+def try_idle(results, proxy):
+    idle = [socket.create_connection((HOST, proxy.port)) for _ in range(SESSIONS)]
+    time.sleep(2)
+    spent, began = proxy.processor_seconds(), time.monotonic()
+    time.sleep(8)
+    share = (proxy.processor_seconds() - spent) / (time.monotonic() - began)
+    threads = proxy.counts()[0]
+    results.say(f"{SESSIONS} idle sessions use under 2 % of a core", share < 0.02 and threads > SESSIONS * 4,
+                f"{share:.1%}, {threads} threads")
+    for one in idle:
+        one.close()
+    results.same("no thread and no descriptor is left", proxy.settled(proxy.idle), proxy.idle)
+
+
+def try_instances(results, proxy, instances):
+    hanging = socket.create_connection((HOST, proxy.port))
+    hanging.sendall(b"GET /half HTTP/1.1\r\nHost: a\r\n\r\n")
+    time.sleep(1)
+    instances.kill(2)
+    seconds, got = seconds_to_close(hanging, 10)
+    results.say("an instance that is killed amid a reply", seconds is not None and got == b"",
+                f"closed after {seconds or 10:.1f} s, {len(got)} bytes before")
+    shown, seconds = page(proxy.port)
+    results.say("an instance that is down", shown in CLOSED and seconds < 3, f"{shown} after {seconds:.1f} s")
+    instances.begin_again(2)
+    results.same("once it is back", page(proxy.port)[0], (200, 13))
+    results.same("no thread and no descriptor is left", proxy.settled(proxy.idle), proxy.idle)
+
+
+def try_backend(results, proxy):
+    seen = curls(proxy.callers, "/close")
+    results.say("a backend that closes", seen == [b""] * COPIES)
+    results.say("the calls behind it", curls(proxy.callers, "/") == [b"All is well.\n"] * COPIES)
+    one = socket.create_connection((HOST, proxy.callers[0]))
+    seconds, got = seconds_to_close(one, 10)
+    results.say("a caller to whom no other comes", seconds is not None and seconds < 5, f"closed after {seconds or 10:.1f} s")
+    results.say("the calls behind it", curls(proxy.callers, "/") == [b"All is well.\n"] * COPIES)
+    results.same("no thread and no descriptor is left", proxy.settled(proxy.idle), proxy.idle)
+
+
+def try_trouble(results, program, folder):
+    if not is_here("curl"):
+        return
+    instances = Instances()
+    try:
+        proxy = Proxy(program, folder, "http", instances.ports, instances.ports[0], request_ms=2_000, gather_ms=3_000)
+        taken = subprocess.run([program, "run", proxy.settings], stdin=subprocess.DEVNULL, stderr=subprocess.PIPE,
+                               timeout=60, check=False)
+        results.say("a port that is taken", taken.returncode == 7 and b"status 7" in taken.stderr,
+                    f"status {taken.returncode}, {taken.stderr.decode().strip()}")
+        bystander = Bystander(proxy.port)
+        results.say("before any other trouble", bystander.is_served())
+        try_slow_clients(results, proxy, bystander)
+        try_many(results, proxy, bystander)
+        bystander.link.close()
+        results.same("no thread and no descriptor is left", proxy.settled(proxy.idle), proxy.idle)
+        try_idle(results, proxy)
+        try_instances(results, proxy, instances)
+        try_backend(results, proxy)
+        proxy.stop(results)
+    finally:
+        instances.end()
+
+
+def main():
+    parser = argparse.ArgumentParser(description=__doc__.splitlines()[0])
+    parser.add_argument("parts", nargs="*", metavar="PART", help=f"of {', '.join(PARTS)}")
+    parser.add_argument("--program", default=os.path.join(ROOT, "rddr"), help="what is run as `PROGRAM run SETTINGS`")
+    parser.add_argument("--instance", type=int, metavar="PORT", help="be one of the servers of `trouble`")
+    given = parser.parse_args()
+    if given.instance:
+        http.server.ThreadingHTTPServer((HOST, given.instance), Instance).serve_forever()
+    parts = {"http": try_http, "browser": try_browser, "postgres": try_postgres, "calls": try_calls,
+             "trouble": try_trouble}
+    results = Results()
+    for name in given.parts or PARTS:
+        began = time.monotonic()
+        folder = tempfile.mkdtemp(prefix="rddr-peers-")
+        os.chmod(folder, 0o755)
+        try:
+            parts[name](results, given.program, folder)
+        finally:
+            shutil.rmtree(folder, ignore_errors=True)
+        print(f"{name}: {time.monotonic() - began:.0f} s", flush=True)
+    return 1 if results.wrong else 0
+
+
+if __name__ == "__main__":
+    sys.exit(main())
