@@ -290,6 +290,14 @@ link.close()
 """
 
 
+def with_driver():
+    """A Python that has psycopg2: this one, or Debian's. None where neither has it."""
+    for python in (sys.executable, "/usr/bin/python3"):
+        if os.path.exists(python) and run([python, "-c", "import psycopg2"]).endswith(b"status 0"):
+            return python
+    return None
+
+
 def try_pgbench(results, databases, proxy):
     for mode in ("simple", "extended", "prepared"):
         text = databases.call(proxy.port, "pgbench", "-n", "-S", "-M", mode, "-c", "16", "-j", "2", "-T", "2")
@@ -333,8 +341,9 @@ def try_postgres(results, program, folder):
     try:
         proxy = Proxy(program, folder, "pg", databases.ports, gather_ms=40_000)
         results.same("psql", *(databases.ask(port, *QUERIES) for port in (proxy.port, databases.ports[0])))
-        if run([sys.executable, "-c", "import psycopg2"]).endswith(b"status 0"):
-            seen = [run([sys.executable, "-c", DRIVER], env=databases.environment(port))
+        python = with_driver()
+        if python:
+            seen = [run([python, "-c", DRIVER], env=databases.environment(port))
                     for port in (proxy.port, databases.ports[0])]
             results.same("psycopg2", *seen)
             results.say("psycopg2, the last line", b"(49,)\n\nstatus 0" in seen[0])

@@ -11,6 +11,7 @@ ghost use Rattle.rd_serve.specs.Sessions.{AreOut, Keeps, KeepsTold, HasRoom};
 use crate::session::{Served, Session, begin};
 use rd_base::{Clock, NoMemory, OperatorEnd, Side, Sink, Source, Stopper};
 use rd_doors::{Doors, Ends, Visit};
+use rd_lent_book::LentBook;
 use rd_run_session::{SessionLeft, SessionRunner, another_runner, run_visit, take_in_runner};
 use rd_runner::Ended;
 use rd_start::Spawner;
@@ -28,11 +29,12 @@ fn hand_back<
     P: Spawner + Send + 'static,
     C: Clock + Send + 'static,
     T: Stopper + Send + 'static,
+    B: LentBook + Send + 'static,
     R: Wait + Threads + Copy + Send + Sync + 'static,
     E: Doors<SessionLeft<R>>,
 >(
     doors: &mut E,
-    first: &Snapshot<SessionRunner<P, C, T, R>>,
+    first: &Snapshot<SessionRunner<P, C, T, B, R>>,
     side: Side,
     ends: Snapshot<Ends<E::Give, E::Take>>,
     number: u64,
@@ -67,16 +69,17 @@ fn give_back<
     P: Spawner + Send + 'static,
     C: Clock + Send + 'static,
     T: Stopper + Send + 'static,
+    B: LentBook + Send + 'static,
     R: Wait + Threads + Copy + Send + Sync + 'static,
     E: Doors<SessionLeft<R>>,
 >(
     doors: &mut E,
-    runner: &mut SessionRunner<P, C, T, R>,
-    first: &Snapshot<SessionRunner<P, C, T, R>>,
+    runner: &mut SessionRunner<P, C, T, B, R>,
+    first: &Snapshot<SessionRunner<P, C, T, B, R>>,
     side: Side,
     ends: Snapshot<Ends<E::Give, E::Take>>,
     number: u64,
-    served: Served<E::Give, E::Take, P, C, T, R>,
+    served: Served<E::Give, E::Take, P, C, T, B, R>,
 )
     requires tells { Tells (CameTo E.Give) first.now.value.setup (E.tells doors.old) }
     requires counts { CountedBy first.now.value
@@ -109,15 +112,16 @@ fn join_at<
     P: Spawner + Send + 'static,
     C: Clock + Send + 'static,
     T: Stopper + Send + 'static,
+    B: LentBook + Send + 'static,
     R: Wait + Threads + Copy + Send + Sync + 'static,
     E: Doors<SessionLeft<R>>,
 >(
     rt: R,
     doors: &mut E,
-    runner: &mut SessionRunner<P, C, T, R>,
-    first: &Snapshot<SessionRunner<P, C, T, R>>,
+    runner: &mut SessionRunner<P, C, T, B, R>,
+    first: &Snapshot<SessionRunner<P, C, T, B, R>>,
     waiting: Option<u64>,
-    sessions: &mut Vec<Session<E::Give, E::Take, P, C, T, R>>,
+    sessions: &mut Vec<Session<E::Give, E::Take, P, C, T, B, R>>,
     flags: &mut Vec<Arc<AtomicBool, Global>>,
     place: usize,
 )
@@ -159,8 +163,9 @@ fn ended_place<
     P: Spawner + Send + 'static,
     C: Clock + Send + 'static,
     T: Stopper + Send + 'static,
+    B: LentBook + Send + 'static,
     R: Wait + Threads + Copy + Send + Sync + 'static,
->(sessions: &[Session<S, K, P, C, T, R>]) -> Option<usize>
+>(sessions: &[Session<S, K, P, C, T, B, R>]) -> Option<usize>
     ensures { IfSome result (λ place. place < length sessions.now) }
 {
     sessions
@@ -173,15 +178,16 @@ fn join_ended<
     P: Spawner + Send + 'static,
     C: Clock + Send + 'static,
     T: Stopper + Send + 'static,
+    B: LentBook + Send + 'static,
     R: Wait + Threads + Copy + Send + Sync + 'static,
     E: Doors<SessionLeft<R>>,
 >(
     rt: R,
     doors: &mut E,
-    runner: &mut SessionRunner<P, C, T, R>,
-    first: &Snapshot<SessionRunner<P, C, T, R>>,
+    runner: &mut SessionRunner<P, C, T, B, R>,
+    first: &Snapshot<SessionRunner<P, C, T, B, R>>,
     waiting: Option<u64>,
-    sessions: &mut Vec<Session<E::Give, E::Take, P, C, T, R>>,
+    sessions: &mut Vec<Session<E::Give, E::Take, P, C, T, B, R>>,
     flags: &mut Vec<Arc<AtomicBool, Global>>,
 )
     requires tells { Tells (CameTo E.Give) first.now.value.setup (E.tells doors.old) }
@@ -212,14 +218,15 @@ fn join_all<
     P: Spawner + Send + 'static,
     C: Clock + Send + 'static,
     T: Stopper + Send + 'static,
+    B: LentBook + Send + 'static,
     R: Wait + Threads + Copy + Send + Sync + 'static,
     E: Doors<SessionLeft<R>>,
 >(
     rt: R,
     doors: &mut E,
-    runner: &mut SessionRunner<P, C, T, R>,
-    first: &Snapshot<SessionRunner<P, C, T, R>>,
-    sessions: &mut Vec<Session<E::Give, E::Take, P, C, T, R>>,
+    runner: &mut SessionRunner<P, C, T, B, R>,
+    first: &Snapshot<SessionRunner<P, C, T, B, R>>,
+    sessions: &mut Vec<Session<E::Give, E::Take, P, C, T, B, R>>,
     flags: &mut Vec<Arc<AtomicBool, Global>>,
 )
     requires tells { Tells (CameTo E.Give) first.now.value.setup (E.tells doors.old) }
@@ -244,12 +251,13 @@ fn turn_away<
     P: Spawner + Send + 'static,
     C: Clock + Send + 'static,
     T: Stopper + Send + 'static,
+    B: LentBook + Send + 'static,
     R: Wait + Threads + Copy + Send + Sync + 'static,
     E: Doors<SessionLeft<R>>,
 >(
     doors: &mut E,
-    runner: &SessionRunner<P, C, T, R>,
-    first: &Snapshot<SessionRunner<P, C, T, R>>,
+    runner: &SessionRunner<P, C, T, B, R>,
+    first: &Snapshot<SessionRunner<P, C, T, B, R>>,
     ends: Ends<E::Give, E::Take>,
 )
     requires tells { Tells (CameTo E.Give) first.now.value.setup (E.tells doors.old) }
@@ -276,13 +284,14 @@ fn serve_here<
     P: Spawner + Send + 'static,
     C: Clock + Send + 'static,
     T: Stopper + Send + 'static,
+    B: LentBook + Send + 'static,
     R: Wait + Threads + Copy + Send + Sync + 'static,
     E: Doors<SessionLeft<R>>,
 >(
     alloc: Global,
     doors: &mut E,
-    runner: &mut SessionRunner<P, C, T, R>,
-    first: &Snapshot<SessionRunner<P, C, T, R>>,
+    runner: &mut SessionRunner<P, C, T, B, R>,
+    first: &Snapshot<SessionRunner<P, C, T, B, R>>,
     side: Side,
     ends: Ends<E::Give, E::Take>,
 )
@@ -312,17 +321,18 @@ fn take_in<
     P: Spawner + Send + 'static,
     C: Clock + Send + 'static,
     T: Stopper + Send + 'static,
+    B: LentBook + Send + 'static,
     R: Wait + Threads + Copy + Send + Sync + 'static,
     E: Doors<SessionLeft<R>>,
 >(
     rt: R,
     alloc: Global,
     doors: &mut E,
-    runner: &mut SessionRunner<P, C, T, R>,
-    first: &Snapshot<SessionRunner<P, C, T, R>>,
+    runner: &mut SessionRunner<P, C, T, B, R>,
+    first: &Snapshot<SessionRunner<P, C, T, B, R>>,
     side: Side,
     ends: Ends<E::Give, E::Take>,
-    sessions: &mut Vec<Session<E::Give, E::Take, P, C, T, R>>,
+    sessions: &mut Vec<Session<E::Give, E::Take, P, C, T, B, R>>,
     flags: &mut Vec<Arc<AtomicBool, Global>>,
 )
     requires tells { Tells (CameTo E.Give) first.now.value.setup (E.tells doors.old) }
@@ -375,17 +385,18 @@ fn receive<
     P: Spawner + Send + 'static,
     C: Clock + Send + 'static,
     T: Stopper + Send + 'static,
+    B: LentBook + Send + 'static,
     R: Wait + Threads + Copy + Send + Sync + 'static,
     E: Doors<SessionLeft<R>>,
 >(
     rt: R,
     alloc: Global,
     doors: &mut E,
-    runner: &mut SessionRunner<P, C, T, R>,
-    first: &Snapshot<SessionRunner<P, C, T, R>>,
+    runner: &mut SessionRunner<P, C, T, B, R>,
+    first: &Snapshot<SessionRunner<P, C, T, B, R>>,
     side: Side,
     ends: Ends<E::Give, E::Take>,
-    sessions: &mut Vec<Session<E::Give, E::Take, P, C, T, R>>,
+    sessions: &mut Vec<Session<E::Give, E::Take, P, C, T, B, R>>,
     flags: &mut Vec<Arc<AtomicBool, Global>>,
 )
     requires tells { Tells (CameTo E.Give) first.now.value.setup (E.tells doors.old) }
@@ -416,15 +427,16 @@ fn serve_visit<
     P: Spawner + Send + 'static,
     C: Clock + Send + 'static,
     T: Stopper + Send + 'static,
+    B: LentBook + Send + 'static,
     R: Wait + Threads + Copy + Send + Sync + 'static,
     E: Doors<SessionLeft<R>>,
 >(
     rt: R,
     alloc: Global,
     doors: &mut E,
-    runner: &mut SessionRunner<P, C, T, R>,
-    first: &Snapshot<SessionRunner<P, C, T, R>>,
-    sessions: &mut Vec<Session<E::Give, E::Take, P, C, T, R>>,
+    runner: &mut SessionRunner<P, C, T, B, R>,
+    first: &Snapshot<SessionRunner<P, C, T, B, R>>,
+    sessions: &mut Vec<Session<E::Give, E::Take, P, C, T, B, R>>,
     flags: &mut Vec<Arc<AtomicBool, Global>>,
 ) -> bool
     requires tells { Tells (CameTo E.Give) first.now.value.setup (E.tells doors.old) }
@@ -504,13 +516,14 @@ pub fn serve<
     P: Spawner + Send + 'static,
     C: Clock + Send + 'static,
     T: Stopper + Send + 'static,
+    B: LentBook + Send + 'static,
     R: Wait + Threads + Copy + Send + Sync + 'static,
     E: Doors<SessionLeft<R>>,
 >(
     rt: R,
     alloc: Global,
     doors: &mut E,
-    runner: &mut SessionRunner<P, C, T, R>,
+    runner: &mut SessionRunner<P, C, T, B, R>,
 ) -> Result<(), NoMemory>
     requires copies { (E.tells doors.old).copies ≡ Some runner.old.setup.limits.copies }
     requires untold { (told : List (Entry (SessionLeft R)))

@@ -9,6 +9,7 @@ use rd_mem_doors::{MemDoors, Told};
 use rd_run_session::{SessionLeft, SessionRunner};
 use rd_serve::serve;
 use rd_start::ThreadSpawner;
+use rd_token_map::NoBook;
 use std::alloc::Global;
 use std::rt::Clock;
 use std::sync::atomic::AtomicU64;
@@ -96,7 +97,7 @@ fn runner_of<R: Wait + Threads + Copy>(
     rt: R,
     alloc: Global,
     settings: Settings,
-) -> SessionRunner<ThreadSpawner, MemClock, MemStopper, R>
+) -> SessionRunner<ThreadSpawner, MemClock, MemStopper, NoBook, R>
     requires { AreLimits settings.limits }
     ensures { result.setup.limits ≡ settings.limits }
 {
@@ -110,6 +111,7 @@ fn runner_of<R: Wait + Threads + Copy>(
         ThreadSpawner::new(),
         MemClock::new(alloc, Vec::new(alloc)),
         MemStopper::new(alloc, Vec::new(alloc)),
+        NoBook,
     )
 }
 

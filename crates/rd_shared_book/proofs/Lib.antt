@@ -3,3 +3,4 @@ pub mod Appended
 pub mod Counting
 pub mod Learning
 pub mod Telling
+pub mod Lending

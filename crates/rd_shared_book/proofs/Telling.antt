@@ -1,5 +1,5 @@
 -- What one more call is to those of a seat.
-use Rattle.std.proofs.Common.{◌≡◌, ℕ, suc, ◌+◌, ◌<◌, List, [], ◌∷◌, ◌++◌, length, find, Option, Some, refl, sym, ap, ◌∙◌, arith, length-append}
+use Rattle.std.proofs.Common.{◌≡◌, ℕ, suc, ◌+◌, List, [], ◌∷◌, ◌++◌, length, find, Option, Some, refl, sym, ap, ◌∙◌, arith, length-append}
 use mathlib.Core.List.{IsPrefix}
 use Rattle.rd_base.specs.History.{Row}
 use Rattle.rd_token_map.specs.BookCalls.{BookCall, Found, Learned, Finds}

@@ -50,7 +50,8 @@ impl<J: Naming, R: Wait + Copy> Book<J, R> {
     }
 }
 
-fn make_seats<J: Naming, R: Wait + Copy>(
+/// The seats of an empty book.
+pub(crate) fn make_seats<J: Naming, R: Wait + Copy>(
     rt: R,
     alloc: Global,
     list: NewList,

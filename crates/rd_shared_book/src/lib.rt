@@ -7,10 +7,12 @@ mod desk;
 mod key;
 mod keyed_row;
 mod known;
+mod lender;
 mod seat;
 mod shelf;
 
 pub use book::Book;
+pub use lender::Lender;
 pub use seat::{BookSeat, Seat};
 pub use shelf::{Addition, Shelf};
 

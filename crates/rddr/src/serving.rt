@@ -19,12 +19,18 @@ use crate::work::settings_file;
 use rd_base::{Clock, Files, NoMemory, Sink, Stopper};
 use rd_conf::{Key, Ports, Settings, SettingsFail};
 use rd_doors::{DoorFail, Doors};
+use rd_history::{Naming, NewList};
 use rd_run_session::{SessionLeft, SessionRunner};
 use rd_serve::serve;
+use rd_shared_book::Lender;
 use rd_start::Spawner;
 use std::alloc::Global;
+use std::marker::Brand;
 use std::sync::Wait;
 use std::thread::Threads;
+
+/// How many share the book: each session, and who serves them.
+const SEATS: u8 = 33;
 
 /// Answers the words `run SETTINGS` behind the program's name, and gives the status: serves by the settings of that file
 /// until the doors are over, or prints why not. Past such a refusal it writes nothing.
@@ -219,6 +225,64 @@ fn serve_by<
         Err(DoorFail::Failed) => return 7,
         Err(DoorFail::NoMemory) => return 6,
     }
+    serve_with::<Brand, P, C, T, R, E>(
+        rt,
+        alloc,
+        NewList::new(),
+        settings,
+        doors,
+        spawner,
+        clock,
+        stop,
+    )
+}
+
+/// Serves by these settings with a book of 33 seats, of which 32 are lent, until the doors are over, and gives the status.
+fn serve_with<
+    J: Naming + Send + Sync + 'static,
+    P: Spawner + Send + 'static,
+    C: Clock + Send + 'static,
+    T: Stopper + Send + 'static,
+    R: Wait + Threads + Copy + Send + Sync + 'static,
+    E: Doors<SessionLeft<R>>,
+>(
+    rt: R,
+    alloc: Global,
+    list: NewList,
+    settings: Settings,
+    doors: &mut E,
+    spawner: &mut P,
+    clock: &mut C,
+    stop: &mut T,
+) -> u8
+    requires book { list.seen.book ≡ J.book }
+    requires seats { J.seats ≡ 33 }
+    requires copies { (E.tells doors.old).copies ≡ Some settings.limits.copies }
+    requires limits { AreLimits settings.limits }
+    requires untold { (told : List (Entry (SessionLeft R))) → (E.tells doors.old).told ≡ Some told
+        → told ≡ [] }
+    requires none { (E.tells doors.old).out ≡ [] }
+    ensures range { result ≤ 7 }
+    ensures served { (told : List (Entry (SessionLeft R))) → (E.tells doors.new).told ≡ Some told
+        → IsServed (CameTo E.Give) (setup_of settings) told }
+    ensures ended { result ≡ 0 → (told : List (Entry (SessionLeft R)))
+        → (E.tells doors.new).told ≡ Some told → (n : ℕ) → times_given n told ≡ times_ended n told }
+    ensures stopped { (told : List (Entry (SessionLeft R))) → (E.tells doors.new).told ≡ Some told
+        → RoseBy (times_stopped told) (T.tells stop.old).yeses (T.tells stop.new).yeses }
+    ensures unstarted { (told : List (Entry (SessionLeft R))) → (E.tells doors.new).told ≡ Some told
+        → RoseBy (times_unstarted told)
+        (P.tells spawner.old).refusals (P.tells spawner.new).refusals }
+    ensures late { (told : List (Entry (SessionLeft R))) → (E.tells doors.new).told ≡ Some told
+        → EachRun (IsWithin (C.tells clock.new).span) told }
+    ensures over { result ≡ 0 → (E.tells doors.new).is_over ≡ true }
+    ensures out { result ≡ 0 → (E.tells doors.new).out ≡ [] }
+    ensures unread { result ≡ 4 → ⊥ }
+    ensures unwritten { result ≡ 5 → ⊥ }
+    ensures ports { result ≡ 7 → ⊥ }
+{
+    let Ok(book) = Lender::<J, R>::make(rt, alloc, list, SEATS) else {
+        return 6;
+    };
     let Settings {
         limits,
         incoming,
@@ -236,9 +300,10 @@ fn serve_by<
         spawner.another(),
         clock.another(),
         stop.another(),
+        book,
     );
     let served = serve(rt, alloc, doors, &mut runner);
-    let (their_spawner, their_clock, their_stop) = runner.into_parts();
+    let (their_spawner, their_clock, their_stop, _) = runner.into_parts();
     spawner.join_in(their_spawner);
     clock.join_in(their_clock);
     stop.join_in(their_stop);

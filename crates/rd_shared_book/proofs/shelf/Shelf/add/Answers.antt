@@ -1,5 +1,4 @@
-use Rattle.std.proofs.Common.{◌≡◌, length, refl, ap, ◌∙◌, arith, length-append, ◌∷◌, []}
-use Rattle.rd_history.specs.Learns.{of_seat}
+use Rattle.std.proofs.Common.{length, refl, ap, arith, length-append, ◌∷◌, []}
 use Rattle.rd_shared_book.proofs.Appended.{of_seat-fewer}
 use Rattle.rd_shared_book.proofs.Learning.{counted_at, book-more}
 use Rattle.rd_shared_book.proofs.shelf.Shelf.add.Goals as goal

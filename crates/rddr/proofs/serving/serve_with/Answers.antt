@@ -4,7 +4,7 @@ use Rattle.rd_runner.specs.Counts.{RunnerTold}
 use Rattle.rd_run_session.specs.CameTo.{CameTo}
 use Rattle.rd_serve.specs.Serving.{IsServed}
 use Rattle.rddr.proofs.Joining.{late_with}
-use Rattle.rddr.proofs.serving.serve_by.Goals as goal
+use Rattle.rddr.proofs.serving.serve_with.Goals as goal
 
 -- ---- the doors are over
 
