@@ -3,6 +3,8 @@
 
 - `http`: curl, and wrk with 32 connections and a 33rd, before three nginx.
 - `browser`: headless Chromium fetches a form from the three nginx and posts it.
+- `forms`: curl with a cookie jar, and Chromium, fetch a form over one connection and post it over another, before three
+  nginx that close each connection, each before an application that takes its own tokens and cookies alone.
 - `postgres`: psql, `pgbench -S` in its three query modes, pgbench's own script with one client, and psycopg2, before
   three PostgreSQL servers, of which one then loses a backend to a KILL.
 - `calls`: three curl and three psql call one nginx and one PostgreSQL server through the outgoing side.
@@ -16,23 +18,27 @@ python3-psycopg2) is named and left out.
 
 import argparse
 import http.client
+import http.cookies
 import http.server
 import os
 import pwd
 import re
+import secrets
 import shutil
 import signal
 import socket
 import subprocess
 import sys
 import tempfile
+import threading
 import time
+import urllib.parse
 
 import record_http
 import record_postgres
 from recording import HOST, ROOT, free_port, wait_for_port
 
-PARTS = ("http", "browser", "postgres", "calls", "trouble")
+PARTS = ("http", "browser", "forms", "postgres", "calls", "trouble")
 COPIES = 3
 SESSIONS = 32
 MEGA_LINES = 65_536  # of 16 bytes each
@@ -209,25 +215,95 @@ def try_http(results, program, folder):
         servers.end()
 
 
+def chromium(folder, name, port):
+    """What headless Chromium shows behind the form that it fetches and posts."""
+    words = ["--headless", "--no-sandbox", "--disable-gpu", "--disable-dev-shm-usage", "--no-first-run",
+             "--disable-background-networking", "--disable-component-update", "--disable-sync",
+             "--host-resolver-rules=MAP * ~NOTFOUND , EXCLUDE 127.0.0.1", "--virtual-time-budget=8000"]
+    own = [f"--user-data-dir={folder}/chromium-{name}", "--dump-dom", f"http://{HOST}:{port}/app/form"]
+    shown = run(["chromium", *words, *own], cwd=folder, env={**os.environ, "HOME": folder})
+    return (re.findall(rb"Ordered:.*", shown) or [shown])[-1]
+
+
 def try_browser(results, program, folder):
     if not is_here("nginx", "chromium"):
         return
     servers = WebServers(folder)
     try:
         proxy = Proxy(program, folder, "http", servers.ports())
-        words = ["--headless", "--no-sandbox", "--disable-gpu", "--disable-dev-shm-usage", "--no-first-run",
-                 "--disable-background-networking", "--disable-component-update", "--disable-sync",
-                 "--host-resolver-rules=MAP * ~NOTFOUND , EXCLUDE 127.0.0.1", "--virtual-time-budget=8000"]
-        pages = []
-        for number, port in enumerate((proxy.port, servers.ports()[0])):
-            own = [f"--user-data-dir={folder}/chromium-{number}", "--dump-dom", f"http://{HOST}:{port}/app/form"]
-            shown = run(["chromium", *words, *own], cwd=folder, env={**os.environ, "HOME": folder})
-            pages += re.findall(rb"Ordered:.*", shown) or [shown]
+        pages = [chromium(folder, number, port) for number, port in enumerate((proxy.port, servers.ports()[0]))]
         results.say("chromium posts a form", pages[0].startswith(b"Ordered:"), pages[0].decode(errors="replace")[-300:])
         results.same("chromium, the page behind the form", *(re.sub(rb"[0-9a-f]{16,}", b"TOKEN", one) for one in pages))
         proxy.stop(results)
     finally:
         servers.end()
+
+
+class Shop(record_http.Application):
+    """A form with a token, and a cookie, of this instance's own; an order is taken only with both."""
+
+    def do_GET(self):
+        token, visit = secrets.token_hex(16), secrets.token_hex(16)
+        self.server.given.add((token, visit))
+        self.answer(200, "text/html; charset=utf-8", record_http.FORM.format(token=token).encode(),
+                    ("Cache-Control", "no-store"), ("Set-Cookie", f"visit={visit}; Path=/"))
+
+    def do_POST(self):
+        fields = urllib.parse.parse_qs(self.content().decode())
+        cookies = http.cookies.SimpleCookie(self.headers.get("Cookie", ""))
+        shown = tuple(fields.get("token", [])) + tuple(cookie.value for cookie in cookies.values())
+        if shown in self.server.given:
+            self.answer(200, "text/html; charset=utf-8", record_http.DONE.format(item="chairs").encode())
+        else:
+            self.answer(403, "text/plain", b"Not mine.\n")
+
+
+def start_shop(folder, number):
+    """An nginx that closes each connection, before a shop of its own."""
+    shop = record_http.Quiet((HOST, 0), Shop)
+    shop.given = set()
+    threading.Thread(target=shop.serve_forever, daemon=True).start()
+    program, text, words, user = record_http.SERVERS["nginx"]
+    record_http.SERVERS["closing"] = (program, text.replace("absolute_redirect off;", "keepalive_timeout 0;"), words, user)
+    own = os.path.join(folder, f"closing-{number}")
+    os.mkdir(own)
+    os.chmod(own, 0o777)
+    return shop, *record_http.start_server("closing", own, own, shop.server_port)
+
+
+def order(folder, name, asked, port):
+    """What curl is answered that fetches a form from the first of these ports and posts it to the second."""
+    jar, words = os.path.join(folder, f"jar-{name}"), ["curl", "-q", "-s", "--max-time", "20"]
+    page = run([*words, "-c", jar, f"http://{HOST}:{asked}/app/form"])
+    token = re.search(rb'name="token" value="([0-9a-f]+)"', page)
+    if not token:
+        return page
+    return run([*words, "-b", jar, "-d", f"token={token[1].decode()}&item=chairs", f"http://{HOST}:{port}/app/form"])
+
+
+def try_forms(results, program, folder):
+    if not is_here("nginx", "curl"):
+        return
+    shops = [start_shop(folder, number) for number in range(COPIES)]
+    ports = [port for _, _, port in shops]
+    try:
+        proxy = Proxy(program, folder, "http", ports)
+        results.say("an instance takes no token of another", b"Not mine." in order(folder, "other", ports[0], ports[1]))
+        for number in range(3):
+            shown = order(folder, number, proxy.port, proxy.port)
+            results.say(f"curl posts a form over another connection, {number + 1}", b"Ordered: chairs" in shown,
+                        shown.decode(errors="replace")[-300:])
+        if is_here("chromium"):
+            shown = chromium(folder, "forms", proxy.port)
+            results.say("chromium posts a form over another connection", shown.startswith(b"Ordered:"),
+                        shown.decode(errors="replace")[-300:])
+        results.same("sessions are over", proxy.settled(proxy.idle), proxy.idle)
+        proxy.stop(results)
+    finally:
+        for shop, server, _ in shops:
+            server.terminate()
+            server.wait(20)
+            shop.shutdown()
 
 
 # ---- PostgreSQL
@@ -605,7 +681,7 @@ def main():
     given = parser.parse_args()
     if given.instance:
         http.server.ThreadingHTTPServer((HOST, given.instance), Instance).serve_forever()
-    parts = {"http": try_http, "browser": try_browser, "postgres": try_postgres, "calls": try_calls,
+    parts = {"http": try_http, "browser": try_browser, "forms": try_forms, "postgres": try_postgres, "calls": try_calls,
              "trouble": try_trouble}
     results = Results()
     for name in given.parts or PARTS:
