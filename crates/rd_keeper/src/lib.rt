@@ -11,6 +11,3 @@ pub use keeper::{KeepFail, Keeper, Put};
 pub use mem_keeper::MemKeeper;
 pub use notes::Notes;
 pub use sql_keeper::SqlKeeper;
-
-#[cfg(test)]
-mod tests;

@@ -2,6 +2,7 @@ ghost use Rattle.std.specs.Prelude.{◌≤◌, ◌-◌, ◌^◌};
 
 use crate::notes::Notes;
 use rd_base::{NoMemory, SessionNote};
+use sqlite::types::ValueRef;
 use sqlite::{Alter, Connection, Error, ErrorCode, Row, Transaction, params};
 use sqlite_resolve::CompileError;
 use std::alloc::Global;
@@ -140,7 +141,7 @@ pub(crate) fn find_note<S: Alter>(
     if id > i64::MAX as u64 {
         return Ok(None);
     }
-    let rows = conn.query_all(ONE, params![id as i64])?;
+    let rows = rows_of(conn, ONE, params![id as i64])?;
     match rows.first() {
         Some(row) => Ok(Some(note_of(row)?)),
         None => Ok(None),
@@ -157,7 +158,7 @@ pub(crate) fn list_notes<S: Alter>(
     if from > i64::MAX as u64 {
         return Ok(notes);
     }
-    let rows = conn.query_all(PAGE, params![from as i64, count as i64])?;
+    let rows = rows_of(conn, PAGE, params![from as i64, count as i64])?;
     for row in &rows {
         if let Err(NoMemory) = notes.push(note_of(row)?) {
             return Err(Error::SqliteFailure(ErrorCode::OutOfMemory));
@@ -167,36 +168,54 @@ pub(crate) fn list_notes<S: Alter>(
 }
 
 pub(crate) fn greatest_id<S: Alter>(conn: &mut Connection<S>) -> Result<Option<u64>, Error> {
-    let rows = conn.query_all(GREATEST, &[])?;
+    let rows = rows_of(conn, GREATEST, &[])?;
     match rows.first() {
-        Some(row) => Ok(Some(row.get(0)?)),
+        Some(row) => Ok(Some(moment_at(row, 0)?)),
         None => Ok(None),
     }
 }
 
 fn note_of(row: &Row) -> Result<SessionNote, Error> {
     Ok(SessionNote {
-        id: row.get(0)?,
+        id: moment_at(row, 0)?,
         side: byte_at(row, 1)?,
         dialect: byte_at(row, 2)?,
-        began: row.get(3)?,
-        ended: row.get(4)?,
-        events: row.get(5)?,
-        exchanges: row.get(6)?,
-        masked: row.get(7)?,
+        began: moment_at(row, 3)?,
+        ended: moment_at(row, 4)?,
+        events: number_at(row, 5)?,
+        exchanges: number_at(row, 6)?,
+        masked: number_at(row, 7)?,
         code: byte_at(row, 8)?,
         link: byte_at(row, 9)?,
-        exchange: row.get(10)?,
-        place: row.get(11)?,
-        detail: row.get(12)?,
+        exchange: number_at(row, 10)?,
+        place: number_at(row, 11)?,
+        detail: number_at(row, 12)?,
         dropped: byte_at(row, 13)?,
     })
 }
 
+// A call of the library's own has clauses that no caller here needs. These have none, so that a proof stays short.
+
+fn moment_at(row: &Row, at: usize) -> Result<u64, Error> {
+    row.get(at)
+}
+
+fn number_at(row: &Row, at: usize) -> Result<u32, Error> {
+    row.get(at)
+}
+
 fn byte_at(row: &Row, at: usize) -> Result<u8, Error> {
-    let wide: u32 = row.get(at)?;
+    let wide = number_at(row, at)?;
     if wide > 255 {
         return Err(Error::IntegralValueOutOfRange(at));
     }
     Ok(wide as u8)
+}
+
+fn rows_of<S: Alter>(
+    conn: &mut Connection<S>,
+    select: &str,
+    values: &[ValueRef<'_>],
+) -> Result<Vec<Row>, Error> {
+    conn.query_all(select, values)
 }

@@ -10,6 +10,3 @@ mod reply;
 mod routes;
 
 pub use once::operator_once;
-
-#[cfg(test)]
-mod tests;
