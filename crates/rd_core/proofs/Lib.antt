@@ -9,4 +9,5 @@ pub mod WantedSteps
 pub mod Planned
 pub mod Moves
 pub mod Faces
+mod Looked
 mod Alone
