@@ -10,4 +10,5 @@ pub mod Planned
 pub mod Moves
 pub mod Faces
 mod Looked
+mod Quieted
 mod Alone

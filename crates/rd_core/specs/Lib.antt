@@ -9,3 +9,4 @@ pub mod Clocks
 pub mod Awaited
 pub mod Alone
 pub mod Looks
+pub mod Quiet

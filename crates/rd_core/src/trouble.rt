@@ -11,6 +11,7 @@ ghost use Rattle.rd_core.specs.Looks.{looks_at, least_look, looks_big, looks_cut
 ghost use Rattle.rd_reading.specs.Seen.{seen_front, seen_request, rules_of};
 
 use crate::stage::Stage;
+use arrayvec::ArrayVec;
 use rd_base::{Bytes, Ending, Limits, Link, NoMemory, Scan, Side, What};
 use rd_dialect::{Dialect, Due};
 use rd_reading::{
@@ -337,22 +338,30 @@ fn end_trouble(setup: &Setup, stage: &Stage, looks: &[Look]) -> Option<Ending>
     or_else(cut, or_else(closed(stage), last))
 }
 
-/// The first trouble of where a session stands.
+/// What is seen of the links on which a unit is due.
+pub(crate) fn looks_at<D: Dialect>(dialect: &D, due: Due, stage: &Stage) -> ArrayVec<Look, 8>
+    requires { due ≡ rule.due_of (D.grammar dialect.now) (seen_stage stage.now []) }
+    ensures { result.items ≡ looks_at (D.grammar dialect.now) stage.now }
+{
+    look_at(dialect, due, due_links(stage).as_slice())
+}
+
+/// The first trouble of where a session stands, by what is seen of the due links.
 pub(crate) fn trouble_of<D: Dialect>(
     alloc: Global,
     dialect: &D,
     setup: &Setup,
     stage: &Stage,
+    due: Due,
+    looks: &[Look],
 ) -> Result<Option<Ending>, NoMemory>
-    requires asked { HasAsked (D.grammar dialect.now) stage.now.out }
     requires limits { AreMaskLimits setup.now.limits.mask }
     requires count { stage.now.count ≤ 65536 }
+    requires due { due ≡ rule.due_of (D.grammar dialect.now) (seen_stage stage.now []) }
+    requires looks { looks.now ≡ looks_at (D.grammar dialect.now) stage.now }
     ensures { IfOk result (λ e. e ≡ rule.trouble_of (rules_of (D.grammar dialect.now) setup.now) (seen_stage stage.now [])) }
 {
-    let due = due_of(dialect, stage);
     let links = due_links(stage);
-    let found = look_at(dialect, due, links.as_slice());
-    let looks = found.as_slice();
     let scans = scan_trouble(alloc, setup, stage, looks)?;
     let exchange = stage.count + 1;
     let differs = early_fault(
