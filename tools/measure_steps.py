@@ -1,5 +1,5 @@
 #!/usr/bin/env python3
-"""Measures what small steps cost: a look at the clock with nothing open, and requests that come ahead of their replies.
+"""Measures what steps cost: looks at the clock, small exchanges, requests ahead of their replies, and long replies in pieces.
 
 Runs the program as `./rddr` builds it, on replays of scripts that it writes into a folder of its own, which is removed
 at the end. What a case costs is what its script costs less what the same script costs behind a `stop` line, so that
@@ -11,6 +11,10 @@ without valgrind these are left out.
 - one by one and ahead: 40 exchanges before 8 copies whose replies have 64 masked words, new ones in each, once each
   request after the reply before and once all in one piece. Wanted: the second at most 1.5 times the first.
 - plain: exchanges of 100 equal bytes, for 3 and 8 copies.
+- long: exchanges whose replies are equal lines of text, for 3 and 8 copies: 10 KB, 1 MiB in pieces of 16,384 and of 1,024
+  bytes, 1 KiB in pieces of one byte. Wanted: 1 MiB in 1,024 pieces at most twice that in 64. The same with a word that is
+  masked, of its own in each copy, at byte 100 and in the middle (wanted: at most twice that without), and with a word
+  that differs at the end, too long to be masked, which ends the session.
 """
 
 import os
@@ -62,6 +66,54 @@ def plain(exchanges, copies):
             yield f"0 piece {copy} {reply}\n"
 
 
+def text(size):
+    words = ["verdict", "of", "several", "token", "lists", "the", "reply", "exchange", "a", "to"]
+    line = " ".join(words[number * number % 7 + number % 4] for number in range(size // 4))
+    return line[: size - 1].encode() + b"\n"
+
+
+def long(size, piece, place=None, length=16):
+    """Equal replies of this size in pieces; where a place is given, each copy has a word of its own there."""
+
+    def of_copy(copy):
+        reply = bytearray(text(size))
+        if place is not None:
+            word = b" " + f"{copy + 1:x}".encode() * length + b" "
+            reply[place : place + len(word)] = word
+        assert len(reply) == size
+        return [reply[at : at + piece].hex() for at in range(0, size, piece)]
+
+    def lines(exchanges, copies):
+        pieces = [of_copy(copy) for copy in range(copies)]
+        for number in range(exchanges):
+            yield f"0 piece {copies} {request(number)}\n"
+            for parts in zip(*pieces):
+                for copy, part in enumerate(parts):
+                    yield f"0 piece {copy} {part}\n"
+
+    return lines
+
+
+TEN, MIB = 10_240, 1 << 20
+
+
+def long_cases():
+    for copies in (3, 8):
+        share = 3 / copies
+        for name, lines, count in [
+            ("10 KB", long(TEN, 16_384), 2_000),
+            ("10 KB, a mask at byte 100", long(TEN, 16_384, 100), 500),
+            ("10 KB, a mask in the middle", long(TEN, 16_384, TEN // 2), 500),
+            ("1 MiB in 64 pieces", long(MIB, 16_384), 16),
+            ("1 MiB in 1,024 pieces", long(MIB, 1_024), 8),
+            ("1 MiB in 64 pieces, a mask at byte 100", long(MIB, 16_384, 100), 1),
+            ("1 MiB in 64 pieces, a mask in the middle", long(MIB, 16_384, MIB // 2), 1),
+            ("1 MiB in 64 pieces, a difference at the end", long(MIB, 16_384, MIB - 203, 200), 1),
+            ("1 KiB in one-byte pieces", long(1_024, 1), 40),
+        ]:
+            yield f"{name}, {copies} copies", lines, copies, max(1, int(count * share)), 0
+
+
 CASES = [
     # name, lines, copies, count for the time, count for valgrind
     ("idle, 3 copies", idle, 3, 200_000, 1_000),
@@ -70,6 +122,7 @@ CASES = [
     ("plain, 8 copies", plain, 8, 10_000, 100),
     ("one by one", one_by_one, 8, 10 * AHEAD, AHEAD),
     ("ahead", ahead, 8, 10 * AHEAD, AHEAD),
+    *long_cases(),
 ]
 
 
@@ -137,12 +190,18 @@ def measure(bench):
         spent = bench.seconds(lines, copies, count, False) - bench.seconds(lines, copies, count, True)
         micros[name] = spent * 1_000_000 / count
         text = f"{name}: {micros[name]:.2f} us"
-        if counted:
+        if counted and few:
             pairs = zip(bench.counts(lines, copies, few, False), bench.counts(lines, copies, few, True))
             blocks, allocated, moved, ran = ((full - stopped) / few for full, stopped in pairs)
             text += f"; {blocks:.1f} allocations of {allocated:.0f} bytes, {moved:.0f} bytes moved, {ran:.0f} instructions"
         print(text, flush=True)
     print(f"ahead to one by one: {micros['ahead'] / micros['one by one']:.2f} (wanted: at most 1.5)")
+    for copies in (3, 8):
+        plain_mib, in_many = micros[f"1 MiB in 64 pieces, {copies} copies"], micros[f"1 MiB in 1,024 pieces, {copies} copies"]
+        print(f"1,024 pieces to 64, {copies} copies: {in_many / plain_mib:.2f} (wanted: at most 2)")
+        for where in ("a mask at byte 100", "a mask in the middle"):
+            masked = micros[f"1 MiB in 64 pieces, {where}, {copies} copies"]
+            print(f"{where} to none, {copies} copies: {masked / plain_mib:.2f} (wanted: at most 2)")
 
 
 def main():

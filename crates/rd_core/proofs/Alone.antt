@@ -1,11 +1,10 @@
 -- Where nothing is open behind the request that is out, a happening of another link asks no words.
-use Rattle.std.proofs.Common.{◌≡◌, ℕ, zero, suc, ◌-◌, ◌<◌, ◌≤◌, map, true, List, [], ◌∷◌, ◌++◌, length, drop, Option, Some, None, refl, sym, ap, ◌∙◌, append-nil, arith}
+use Rattle.std.proofs.Common.{◌≡◌, ℕ, zero, suc, ◌-◌, map, List, [], ◌∷◌, ◌++◌, length, drop, Option, Some, None, refl, ap, ◌∙◌, append-nil, arith}
 use Rattle.std.specs.Prelude.{is_some}
 use Rattle.rd_base.specs.History.{Entry, Row, piece_of}
 use Rattle.rd_base.specs.declared.values.MaskLimits.{MaskLimits}
 use Rattle.rd_base.specs.declared.values.Scan.{Scan}
 use Rattle.rd_base.specs.declared.values.Scan.TheVariants.{Whole, More, Bad, TooBig, Unsupported}
-use Rattle.rd_base.specs.declared.values.What.{What}
 use Rattle.rd_dialect.specs.declared.due.Due.{Due}
 use Rattle.rd_dialect.specs.Due.{request_due}
 use Rattle.rd_dialect.specs.Grammar.{Grammar}

@@ -9,4 +9,6 @@ pub mod WantedSteps
 pub mod Planned
 pub mod Moves
 pub mod Faces
+mod Looked
+mod Quieted
 mod Alone

@@ -69,7 +69,7 @@ all_small g most is_due due (o ∷ os) e = go (λ q. all_small g most is_due due
         All-cons (Fits most) o os (le_of most (length o.bytes) (either_false (nat_lt most (length o.bytes)) (is_due && is_too_big (scan_open g due o)) is)) (ih q)
 
 pub fits : (r : Rules) (stage : Stage) → trouble_of r (seen_stage stage []) ≡ None
-    → All (Fits r.limits.unit_max) (open_asking r.side stage.left.asking.items (option_map seen_request stage.out)) × All (Fits r.limits.unit_max) stage.left.answering.items
+    → All (Fits r.limits.unit_max) (open_asking r.side stage.left.asking.opens.items (option_map seen_request stage.out)) × All (Fits r.limits.unit_max) stage.left.answering.opens.items
 fits r stage none =
     let now = seen_stage stage [] in
     let scans : scan_trouble r now ≡ None = or_left (scan_trouble r now) (or_else (disagreed r now) (end_trouble r now)) none in
@@ -101,10 +101,10 @@ has_more r setup stage entries fault trouble end limits side units is ends le no
     let all = fits r stage (sym is ∙ or_left trouble (full_log_at entries) rest) in
     let most : r.limits.unit_max ≡ setup.limits.unit_max = ap (λ (l : Limits). l.unit_max) limits in
     record {
-      asking = subst (λ (n : ℕ). All (Fits n) (open_asking setup.side stage.left.asking.items (option_map seen_request stage.out))) most
-          (subst (λ (s : Side). All (Fits r.limits.unit_max) (open_asking s stage.left.asking.items (option_map seen_request stage.out))) side all.0);
+      asking = subst (λ (n : ℕ). All (Fits n) (open_asking setup.side stage.left.asking.opens.items (option_map seen_request stage.out))) most
+          (subst (λ (s : Side). All (Fits r.limits.unit_max) (open_asking s stage.left.asking.opens.items (option_map seen_request stage.out))) side all.0);
       units = units;
-      answering = subst (λ (n : ℕ). All (Fits n) stage.left.answering.items) most all.1;
+      answering = subst (λ (n : ℕ). All (Fits n) stage.left.answering.opens.items) most all.1;
       room = not_full entries (or_right trouble (full_log_at entries) rest) le;
     }
 
@@ -135,10 +135,10 @@ asking_fits Outgoing most os (Some ask) all units = short_with most (most + 1638
 room_of : (most : ℕ) (w : What) (os : List rule.Open) → most ≤ 8388608 → is_oversized w ≡ false → All (Fits (most + (most + 16384))) os → All (HasRoom w) os
 room_of most w os le sized fit = λ k d lt. let piece = sized_piece (slice_index_or os k d).link w sized in let here = fit k d lt in omega arith
 
-pub has_room_asking : (setup : Setup) (stage : Stage) (entries : ℕ) (w : What) → setup.limits.unit_max ≤ 8388608 → is_oversized w ≡ false → HasMore setup stage entries → All (HasRoom w) stage.left.asking.items
+pub has_room_asking : (setup : Setup) (stage : Stage) (entries : ℕ) (w : What) → setup.limits.unit_max ≤ 8388608 → is_oversized w ≡ false → HasMore setup stage entries → All (HasRoom w) stage.left.asking.opens.items
 has_room_asking setup stage entries w le sized more =
-    room_of setup.limits.unit_max w stage.left.asking.items le sized
-    (asking_fits setup.side setup.limits.unit_max stage.left.asking.items (option_map seen_request stage.out) more.asking more.units)
+    room_of setup.limits.unit_max w stage.left.asking.opens.items le sized
+    (asking_fits setup.side setup.limits.unit_max stage.left.asking.opens.items (option_map seen_request stage.out) more.asking more.units)
 
 -- the units of what is out a step later
 pub units_after : (g : Grammar) → Lawful g → (setup : Setup) (stage : Stage) (entries : ℕ) (w : What) (n : ℕ) (ask : rule.Ask) → is_oversized w ≡ false
@@ -149,17 +149,17 @@ units_after g laws setup stage entries w n ask sized more is_out e = by setup.si
     most : ℕ
     most = setup.limits.unit_max
 
-    fresh : All (Fits most) stage.left.asking.items → All (UnitFits (most + 16384)) ask.units
+    fresh : All (Fits most) stage.left.asking.opens.items → All (UnitFits (most + 16384)) ask.units
     fresh all = short_out g setup.limits.mask (most + 16384) n (grow_front_by w (seen_front stage.left)) ask
-        (short_grown most 16384 w stage.left.asking.items (λ l. sized_piece l w sized) all) e
+        (short_grown most 16384 w stage.left.asking.opens.items (λ l. sized_piece l w sized) all) e
 
-    by : (side : Side) → All (Fits most) (open_asking side stage.left.asking.items (option_map seen_request stage.out)) → (o : Option rule.Ask) → option_map seen_request stage.out ≡ o → All (UnitFits (most + 16384)) ask.units
+    by : (side : Side) → All (Fits most) (open_asking side stage.left.asking.opens.items (option_map seen_request stage.out)) → (o : Option rule.Ask) → option_map seen_request stage.out ≡ o → All (UnitFits (most + 16384)) ask.units
     by Incoming all o is = fresh all
-    by Outgoing all None is = fresh (subst (λ (p : Option rule.Ask). All (Fits most) (open_asking Outgoing stage.left.asking.items p)) is all)
+    by Outgoing all None is = fresh (subst (λ (p : Option rule.Ask). All (Fits most) (open_asking Outgoing stage.left.asking.opens.items p)) is all)
     by Outgoing all (Some before) is =
         short_out_after g laws setup.limits.mask most 16384 w n (seen_front stage.left) before ask (λ l. sized_piece l w sized)
         (is_out before is)
-        (subst (λ (p : Option rule.Ask). All (Fits most) (open_asking Outgoing stage.left.asking.items p)) is all)
+        (subst (λ (p : Option rule.Ask). All (Fits most) (open_asking Outgoing stage.left.asking.opens.items p)) is all)
         (more.units before is) e
 
 -- what is out is asked first, where this is what was read
@@ -221,7 +221,7 @@ more_same setup old new entries out left more =
     let most = setup.limits.unit_max in
     record {
       asking = subst (λ (f : rule.Front). All (Fits most) (open_asking setup.side f.asking (option_map seen_request new.out))) (sym left)
-          (subst (λ (o : Option Request). All (Fits most) (open_asking setup.side old.left.asking.items (option_map seen_request o))) (sym out) more.asking);
+          (subst (λ (o : Option Request). All (Fits most) (open_asking setup.side old.left.asking.opens.items (option_map seen_request o))) (sym out) more.asking);
       units = λ ask is. more.units ask (ap (option_map seen_request) (sym out) ∙ is);
       answering = subst (λ (f : rule.Front). All (Fits most) f.answering) (sym left) more.answering;
       room = more.room;

@@ -1,5 +1,5 @@
 -- Nothing is asked behind the request that is out.
-use Rattle.std.specs.Prelude.{◌≡◌, List, [], ◌∷◌, drop, Option, Some}
+use Rattle.std.specs.Prelude.{◌≡◌, [], ◌∷◌, drop, Option, Some}
 use Rattle.rd_base.specs.declared.values.What.{What}
 use Rattle.rd_base.specs.History.{piece_of}
 use Rattle.rd_rules.specs.Exchange as rule

@@ -35,9 +35,9 @@ IsOut g setup stage = (ask : rule.Ask) → option_map seen_request stage.out ≡
 
 -- a live session has room for one entry more; what is out came to no more than what was open, and a piece
 pub record HasMore (setup : Setup) (stage : Stage) (entries : ℕ) : Type 0 where
-  pub asking : All (Fits setup.limits.unit_max) (open_asking setup.side stage.left.asking.items (option_map seen_request stage.out))
+  pub asking : All (Fits setup.limits.unit_max) (open_asking setup.side stage.left.asking.opens.items (option_map seen_request stage.out))
   pub units : (ask : rule.Ask) → option_map seen_request stage.out ≡ Some ask → All (UnitFits (setup.limits.unit_max + 16384)) ask.units
-  pub answering : All (Fits setup.limits.unit_max) stage.left.answering.items
+  pub answering : All (Fits setup.limits.unit_max) stage.left.answering.opens.items
   pub room : entries < 1048576
 
 pub record IsKept (g : Grammar) (setup : Setup) (stage : Stage) (entries sum : ℕ) (ending : Option Ending) : Type 0 where

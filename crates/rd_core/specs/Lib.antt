@@ -8,3 +8,5 @@ pub mod Masks
 pub mod Clocks
 pub mod Awaited
 pub mod Alone
+pub mod Looks
+pub mod Quiet

@@ -1,24 +1,27 @@
-ghost use Rattle.std.specs.Prelude.{◌≡◌, ◌≤◌, ◌+◌, ◌-◌, [], List, ℕ, map, length, is_some, All, IfOk, OnOk, OnErr};
-ghost use Rattle.std.specs.List.{flat_map};
-ghost use Rattle.rd_base.specs.Limits.{AreLimits};
+ghost use Rattle.std.specs.Prelude.{◌≡◌, ◌≤◌, ◌+◌, ◌-◌, [], List, ℕ, map, length, is_some, true, not, All, IfOk, IfSome, OnOk, OnErr};
+ghost use Rattle.std.specs.List.{flat_map, list_any};
+ghost use Rattle.rd_base.specs.Limits.{AreLimits, AreMaskLimits};
 ghost use Rattle.rd_base.specs.Sent.{sends_to};
 ghost use Rattle.rd_rules.specs.Given.{own_after, exchange_rows};
 ghost use Rattle.rd_rules.specs.Step.{given_now, masked_now};
-ghost use Rattle.rd_rules.specs.Trouble.{trouble_of, ends_by};
+ghost use Rattle.rd_rules.specs.Trouble.{trouble_of, ends_by, is_whole};
 ghost use Rattle.rd_reading.specs.Whole.{IsDone};
 ghost use Rattle.rd_reading.specs.Seen.{seen_exchange, seen_front, seen_reading, rules_of, rows_are};
 ghost use Rattle.rd_core.specs.OwnLists.{latest_of};
 ghost use Rattle.rd_core.specs.Stages.{seen_stage, seen_next, read_now, HasAsked};
 ghost use Rattle.rd_core.specs.Standing.{now_from};
+ghost use Rattle.rd_core.specs.Kept.{IsOut};
+ghost use Rattle.rd_core.specs.Looks.{looks_at};
+ghost use Rattle.rd_core.specs.Quiet.{StillWaits, IsQuiet};
 
 use crate::masks::masked_in;
 use crate::own_lists::OwnLists;
 use crate::sending::sends_of;
 use crate::stage::{Next, Stage, enter};
-use crate::trouble::trouble_of;
-use rd_base::{Ending, NoMemory, Rows, Sends};
+use crate::trouble::{due_of, looks_at, trouble_of};
+use rd_base::{Ending, NoMemory, Rows, Scan, Sends};
 use rd_dialect::Dialect;
-use rd_reading::{DoneExchange, Reading, Setup, note_of, read_on};
+use rd_reading::{DoneExchange, Look, Reading, Setup, note_of, read_on};
 use rd_token_map::OwnRows;
 use std::alloc::Global;
 
@@ -116,8 +119,84 @@ pub(crate) struct Outcome {
     pub(crate) trouble: Option<Ending>,
 }
 
+fn is_part(scan: Scan) -> bool
+    ensures { result ≡ not (is_whole scan) }
+{
+    !matches!(scan, Scan::Whole(_))
+}
+
+/// Whether some link has no whole unit yet.
+fn some_part(looks: &[Look]) -> bool
+    ensures { result ≡ list_any (λ l. not (is_whole l.scan)) looks.now }
+{
+    looks.iter().any(|look| is_part(look.scan))
+}
+
+/// Whether the request that is out waits for more of a reply.
+fn still_waits<D: Dialect>(dialect: &D, setup: &Setup, stage: &Stage, looks: &[Look]) -> bool
+    requires asked { HasAsked (D.grammar dialect.now) stage.now.out }
+    requires looks { looks.now ≡ looks_at (D.grammar dialect.now) stage.now }
+    ensures { result ≡ true → StillWaits (D.grammar dialect.now) setup.now stage.now }
+{
+    let Some(request) = &stage.out else {
+        return false;
+    };
+    if stage.count >= setup.limits.exchanges_max {
+        return false;
+    }
+    if dialect.is_farewell(note_of(dialect, request)) {
+        return false;
+    }
+    some_part(looks)
+}
+
+/// What a step comes to where the request that is out waits for more of a reply: nothing is read again of what is open.
+/// None where more may be read.
+fn wait_on<D: Dialect>(
+    alloc: Global,
+    dialect: &D,
+    setup: &Setup,
+    stage: &Stage,
+) -> Result<Option<Outcome>, NoMemory>
+    requires limits { AreLimits setup.now.limits }
+    requires count { stage.now.count ≤ setup.now.limits.exchanges_max }
+    requires asked { HasAsked (D.grammar dialect.now) stage.now.out }
+    ensures { IfOk result (λ o. IfSome o (λ p. IsQuiet (D.grammar dialect.now) setup.now stage.now p)) }
+{
+    let due = due_of(dialect, stage);
+    let looks = looks_at(dialect, due, stage);
+    if !still_waits(dialect, setup, stage, looks.as_slice()) {
+        return Ok(None);
+    }
+    let trouble = trouble_of(alloc, dialect, setup, stage, due, looks.as_slice())?;
+    Ok(Some(Outcome {
+        rows: Rows::new(alloc),
+        own: None,
+        sends: Sends::new(alloc),
+        masked: 0,
+        trouble,
+    }))
+}
+
+/// The first trouble of where a session stands.
+fn trouble_at<D: Dialect>(
+    alloc: Global,
+    dialect: &D,
+    setup: &Setup,
+    stage: &Stage,
+) -> Result<Option<Ending>, NoMemory>
+    requires asked { HasAsked (D.grammar dialect.now) stage.now.out }
+    requires limits { AreMaskLimits setup.now.limits.mask }
+    requires count { stage.now.count ≤ 65536 }
+    ensures { IfOk result (λ e. e ≡ trouble_of (rules_of (D.grammar dialect.now) setup.now) (seen_stage stage.now [])) }
+{
+    let due = due_of(dialect, stage);
+    let looks = looks_at(dialect, due, stage);
+    trouble_of(alloc, dialect, setup, stage, due, looks.as_slice())
+}
+
 /// Reads what is open, and goes on past what was read.
-pub(crate) fn go_on<D: Dialect>(
+fn read_further<D: Dialect>(
     alloc: Global,
     dialect: &D,
     setup: &Setup,
@@ -145,7 +224,7 @@ pub(crate) fn go_on<D: Dialect>(
         masked,
     } = plan_of(alloc, dialect, setup, own, told, stage)?;
     let before = enter(stage, next);
-    match trouble_of(alloc, dialect, setup, stage) {
+    match trouble_at(alloc, dialect, setup, stage) {
         Ok(trouble) => Ok(Outcome {
             rows,
             own: later,
@@ -158,4 +237,33 @@ pub(crate) fn go_on<D: Dialect>(
             Err(refused)
         }
     }
+}
+
+/// Hears what is open, and goes on past what is read of it.
+pub(crate) fn go_on<D: Dialect>(
+    alloc: Global,
+    dialect: &D,
+    setup: &Setup,
+    own: &OwnRows,
+    told: &Rows,
+    stage: &mut Stage,
+) -> Result<Outcome, NoMemory>
+    requires limits { AreLimits setup.now.limits }
+    requires count { stage.old.count ≤ setup.now.limits.exchanges_max }
+    requires asked { HasAsked (D.grammar dialect.now) stage.old.out }
+    requires out { IsOut (D.grammar dialect.now) setup.now stage.old }
+    ensures stage { IfOk result (λ p. seen_stage stage.new (latest_of own.now p.own) ≡ now_from (rules_of (D.grammar dialect.now) setup.now) stage.old.count stage.old.bye own.now (read_now (rules_of (D.grammar dialect.now) setup.now) stage.old)) }
+    ensures trouble { IfOk result (λ p. p.trouble ≡ trouble_of (rules_of (D.grammar dialect.now) setup.now) (seen_stage stage.new [])) }
+    ensures sends { IfOk result (λ p. p.sends ≡ sends_to (setup.now.limits.copies + 1) (λ link. given_now (rules_of (D.grammar dialect.now) setup.now) link own.now told.now (is_some stage.old.out) (read_now (rules_of (D.grammar dialect.now) setup.now) stage.old))) }
+    ensures rows { IfOk result (λ p. p.rows ≡ flat_map (exchange_rows (rules_of (D.grammar dialect.now) setup.now)) (read_now (rules_of (D.grammar dialect.now) setup.now) stage.old).done) }
+    ensures masked { IfOk result (λ p. p.masked ≡ masked_now setup.now.side (rules_of (D.grammar dialect.now) setup.now) (is_some stage.old.out) (read_now (rules_of (D.grammar dialect.now) setup.now) stage.old)) }
+    ensures few_masked { IfOk result (λ p. p.masked ≤ 16777216) }
+    ensures count { OnOk result (stage.new.count ≤ setup.now.limits.exchanges_max) }
+    ensures asked { OnOk result (HasAsked (D.grammar dialect.now) stage.new.out) }
+    ensures err { OnErr result (stage.new ≡ stage.old) }
+{
+    if let Some(outcome) = wait_on(alloc, dialect, setup, stage)? {
+        return Ok(outcome);
+    }
+    read_further(alloc, dialect, setup, own, told, stage)
 }

@@ -1,18 +1,22 @@
 ghost use Rattle.rd_reading.specs.Room.{room};
-ghost use Rattle.std.specs.Prelude.{◌≡◌, ◌≤◌, ◌<◌, ◌+◌, ◌*◌, sum_by, ◌++◌, [], ◌∷◌, List, ℕ, Some, None, not, map, length, is_some, find, ◌&&◌, ◌==◌, option_map, IfSome, IfOk};
+ghost use Rattle.std.specs.Prelude.{◌≡◌, ◌≤◌, ◌<◌, ◌+◌, ◌*◌, sum_by, ◌++◌, [], ◌∷◌, List, ℕ, Some, None, not, map, length, is_some, find, nat_lt, if◌then◌else◌, ◌&&◌, ◌==◌, option_map, IfSome, IfOk};
 ghost use Rattle.std.specs.List.{list_all};
 ghost use Rattle.rd_base.specs.Limits.{AreMaskLimits};
 ghost use Rattle.rd_base.specs.Words.{is_empty};
-ghost use Rattle.rd_rules.specs.Exchange.{scan_open as open_scan};
+ghost use Rattle.rd_dialect.specs.Grammar.{Grammar};
 ghost use Rattle.rd_rules.specs.Trouble as rule;
 ghost use Rattle.rd_rules.specs.Wait as wait;
 ghost use Rattle.rd_core.specs.Stages.{seen_stage, HasAsked};
+ghost use Rattle.rd_core.specs.Looks.{looks_at, least_look, looks_big, looks_cut, unsupported_look};
 ghost use Rattle.rd_reading.specs.Seen.{seen_front, seen_request, rules_of};
 
 use crate::stage::Stage;
+use arrayvec::ArrayVec;
 use rd_base::{Bytes, Ending, Limits, Link, NoMemory, Scan, Side, What};
-use rd_dialect::{Dialect, Due, scan_due};
-use rd_reading::{Front, Open, Request, Setup, early_fault, note_of, past_units, scan_open};
+use rd_dialect::{Dialect, Due};
+use rd_reading::{
+    Front, Links, Look, Open, Request, Setup, early_fault, look_at, note_of, past_units,
+};
 use std::alloc::Global;
 
 /// Which unit is due.
@@ -27,14 +31,13 @@ pub(crate) fn due_of<D: Dialect>(dialect: &D, stage: &Stage) -> Due
 }
 
 /// The links on which it is due.
-pub(crate) fn due_opens(stage: &Stage) -> &[Open]
-    ensures opens { result.now ≡ rule.due_opens (seen_stage stage.now []) }
-    ensures few { length result.now ≤ 8 }
+fn due_links(stage: &Stage) -> &Links
+    ensures { result.now.opens.items ≡ rule.due_opens (seen_stage stage.now []) }
 {
     if stage.out.is_some() {
-        stage.left.answering.as_slice()
+        &stage.left.answering
     } else {
-        stage.left.asking.as_slice()
+        &stage.left.asking
     }
 }
 
@@ -56,83 +59,106 @@ fn by_links(side: Side, answering: Option<Ending>, asking: Option<Ending>) -> Op
     }
 }
 
-fn is_bad<D: Dialect>(dialect: &D, due: Due, one: &Open) -> bool
-    ensures { result ≡ rule.is_bad (open_scan (D.grammar dialect.now) due one.now) }
+fn is_bad(scan: Scan) -> bool
+    ensures { result ≡ rule.is_bad scan }
 {
-    matches!(scan_open(dialect, due, one), Scan::Bad)
+    matches!(scan, Scan::Bad)
 }
 
-fn malformed<D: Dialect>(dialect: &D, due: Due, opens: &[Open]) -> Option<Ending>
-    ensures { result ≡ rule.least_open Ending.Malformed (λ o. rule.is_bad (open_scan (D.grammar dialect.now) due o)) opens.now }
+fn malformed(looks: &[Look]) -> Option<Ending>
+    ensures { result ≡ least_look Ending.Malformed (λ l. rule.is_bad l.scan) looks.now }
 {
-    for one in opens {
-        if is_bad(dialect, due, one) {
-            return Some(Ending::Malformed { link: one.link() });
+    for look in looks {
+        if is_bad(look.scan) {
+            return Some(Ending::Malformed { link: look.link });
         }
     }
     None
 }
 
-fn is_big<D: Dialect>(dialect: &D, most: u32, is_due: bool, due: Due, one: &Open) -> bool
-    ensures { result ≡ rule.is_big (D.grammar dialect.now) most is_due due one.now }
+fn is_long(most: u32, one: &Open) -> bool
+    ensures { result ≡ nat_lt most (length one.now.bytes) }
 {
     one.bytes().len() > most as usize
-        || (is_due && matches!(scan_open(dialect, due, one), Scan::TooBig))
 }
 
-fn big_among<D: Dialect>(
-    dialect: &D,
-    most: u32,
-    is_due: bool,
-    due: Due,
-    opens: &[Open],
-) -> Option<Ending>
-    ensures { result ≡ rule.big_among (D.grammar dialect.now) most is_due due opens.now }
+/// The size limit of links on which nothing is due.
+fn long_among(most: u32, opens: &[Open]) -> Option<Ending>
+    ensures { result ≡ rule.least_open Ending.TooBig (λ o. nat_lt most (length o.bytes)) opens.now }
 {
     for one in opens {
-        if is_big(dialect, most, is_due, due, one) {
+        if is_long(most, one) {
             return Some(Ending::TooBig { link: one.link() });
         }
     }
     None
 }
 
-/// The size limit of the links that ask: outgoing, a request that is out doesn't count.
-fn big_asker<D: Dialect>(
+fn is_big(most: u32, look: Look) -> bool
+    ensures { result ≡ looks_big most look }
+{
+    look.len > most as usize || matches!(look.scan, Scan::TooBig)
+}
+
+/// The size limits of links on which a unit is due.
+fn big_among(most: u32, looks: &[Look]) -> Option<Ending>
+    ensures { result ≡ least_look Ending.TooBig (looks_big most) looks.now }
+{
+    for look in looks {
+        if is_big(most, *look) {
+            return Some(Ending::TooBig { link: look.link });
+        }
+    }
+    None
+}
+
+/// The size limits of the links that answer.
+fn big_answerer(setup: &Setup, stage: &Stage, looks: &[Look]) -> Option<Ending>
+    ensures { (g : Grammar) → looks.now ≡ looks_at g stage.now
+        → result ≡ rule.big_among g setup.now.limits.unit_max (is_some stage.now.out) (rule.due_of g (seen_stage stage.now [])) stage.now.left.answering.opens.items }
+{
+    let most = setup.limits.unit_max;
+    match stage.out {
+        Some(_) => big_among(most, looks),
+        None => long_among(most, stage.left.answering.as_slice()),
+    }
+}
+
+/// The size limits of the links that ask: outgoing, a request that is out doesn't count.
+fn big_asker(
     alloc: Global,
-    dialect: &D,
     setup: &Setup,
-    due: Due,
     stage: &Stage,
+    looks: &[Look],
 ) -> Result<Option<Ending>, NoMemory>
-    ensures { IfOk result (λ e. e ≡ rule.big_among (D.grammar dialect.now) setup.now.limits.unit_max (not (is_some stage.now.out)) due (rule.open_asking setup.now.side stage.now.left.asking.items (option_map seen_request stage.now.out))) }
+    ensures { IfOk result (λ e. (g : Grammar) → looks.now ≡ looks_at g stage.now
+        → e ≡ rule.big_among g setup.now.limits.unit_max (not (is_some stage.now.out)) (rule.due_of g (seen_stage stage.now []))
+        (rule.open_asking setup.now.side stage.now.left.asking.opens.items (option_map seen_request stage.now.out))) }
 {
     let most = setup.limits.unit_max;
     let asking = stage.left.asking.as_slice();
     match (setup.side, &stage.out) {
+        (_, None) => Ok(big_among(most, looks)),
+        (Side::Incoming, Some(_)) => Ok(long_among(most, asking)),
         (Side::Outgoing, Some(request)) => {
             let left = past_units(alloc, asking, request.units.as_slice())?;
-            Ok(big_among(dialect, most, false, due, left.as_slice()))
+            Ok(long_among(most, left.as_slice()))
         }
-        _ => Ok(big_among(dialect, most, stage.out.is_none(), due, asking)),
     }
 }
 
-fn too_big<D: Dialect>(
+fn too_big(
     alloc: Global,
-    dialect: &D,
     setup: &Setup,
     stage: &Stage,
+    looks: &[Look],
 ) -> Result<Option<Ending>, NoMemory>
-    requires { HasAsked (D.grammar dialect.now) stage.now.out }
-    ensures { IfOk result (λ e. e ≡ rule.too_big (rules_of (D.grammar dialect.now) setup.now) (seen_stage stage.now [])) }
+    ensures { IfOk result (λ e. (g : Grammar) → looks.now ≡ looks_at g stage.now
+        → e ≡ rule.too_big (rules_of g setup.now) (seen_stage stage.now [])) }
 {
-    let due = due_of(dialect, stage);
-    let most = setup.limits.unit_max;
-    let answering = stage.left.answering.as_slice();
-    let first = big_among(dialect, most, stage.out.is_some(), due, answering);
-    let second = big_asker(alloc, dialect, setup, due, stage)?;
-    Ok(by_links(setup.side, first, second))
+    let answering = big_answerer(setup, stage, looks);
+    let asking = big_asker(alloc, setup, stage, looks)?;
+    Ok(by_links(setup.side, answering, asking))
 }
 
 fn code_of(link: Link, scan: Scan) -> Option<Ending>
@@ -144,11 +170,11 @@ fn code_of(link: Link, scan: Scan) -> Option<Ending>
     }
 }
 
-fn unsupported<D: Dialect>(dialect: &D, due: Due, opens: &[Open]) -> Option<Ending>
-    ensures { result ≡ rule.unsupported_in (D.grammar dialect.now) due opens.now }
+fn unsupported(looks: &[Look]) -> Option<Ending>
+    ensures { result ≡ unsupported_look looks.now }
 {
-    for one in opens {
-        let found = code_of(one.link(), scan_open(dialect, due, one));
+    for look in looks {
+        let found = code_of(look.link, look.scan);
         if found.is_some() {
             return found;
         }
@@ -156,33 +182,19 @@ fn unsupported<D: Dialect>(dialect: &D, due: Due, opens: &[Open]) -> Option<Endi
     None
 }
 
-fn due_malformed<D: Dialect>(dialect: &D, stage: &Stage) -> Option<Ending>
-    requires { HasAsked (D.grammar dialect.now) stage.now.out }
-    ensures { result ≡ rule.malformed (D.grammar dialect.now) (seen_stage stage.now []) }
-{
-    malformed(dialect, due_of(dialect, stage), due_opens(stage))
-}
-
-fn due_unsupported<D: Dialect>(dialect: &D, stage: &Stage) -> Option<Ending>
-    requires { HasAsked (D.grammar dialect.now) stage.now.out }
-    ensures { result ≡ rule.unsupported (D.grammar dialect.now) (seen_stage stage.now []) }
-{
-    unsupported(dialect, due_of(dialect, stage), due_opens(stage))
-}
-
 /// What scans and sizes say.
-fn scan_trouble<D: Dialect>(
+fn scan_trouble(
     alloc: Global,
-    dialect: &D,
     setup: &Setup,
     stage: &Stage,
+    looks: &[Look],
 ) -> Result<Option<Ending>, NoMemory>
-    requires { HasAsked (D.grammar dialect.now) stage.now.out }
-    ensures { IfOk result (λ e. e ≡ rule.scan_trouble (rules_of (D.grammar dialect.now) setup.now) (seen_stage stage.now [])) }
+    ensures { IfOk result (λ e. (g : Grammar) → looks.now ≡ looks_at g stage.now
+        → e ≡ rule.scan_trouble (rules_of g setup.now) (seen_stage stage.now [])) }
 {
-    let big = too_big(alloc, dialect, setup, stage)?;
-    let bad = due_malformed(dialect, stage);
-    let unknown = due_unsupported(dialect, stage);
+    let big = too_big(alloc, setup, stage, looks)?;
+    let bad = malformed(looks);
+    let unknown = unsupported(looks);
     Ok(or_else(bad, or_else(big, unknown)))
 }
 
@@ -211,18 +223,18 @@ pub(crate) fn some_open(opens: &[Open]) -> bool
     opens.iter().any(|one| is_open(one))
 }
 
-fn is_cut<D: Dialect>(dialect: &D, due: Due, one: &Open) -> bool
-    ensures { result ≡ rule.is_cut (D.grammar dialect.now) due one.now }
+fn is_cut(look: Look) -> bool
+    ensures { result ≡ looks_cut look }
 {
-    one.is_ended() && !matches!(scan_open(dialect, due, one), Scan::Whole(_))
+    look.is_ended && !matches!(look.scan, Scan::Whole(_))
 }
 
-fn cut_among<D: Dialect>(dialect: &D, due: Due, opens: &[Open]) -> Option<Ending>
-    ensures { result ≡ rule.least_open Ending.Broken (rule.is_cut (D.grammar dialect.now) due) opens.now }
+fn cut_among(looks: &[Look]) -> Option<Ending>
+    ensures { result ≡ least_look Ending.Broken looks_cut looks.now }
 {
-    for one in opens {
-        if is_cut(dialect, due, one) {
-            return Some(Ending::Broken { link: one.link() });
+    for look in looks {
+        if is_cut(*look) {
+            return Some(Ending::Broken { link: look.link });
         }
     }
     None
@@ -239,20 +251,28 @@ fn left_among(opens: &[Open]) -> Option<Ending>
     None
 }
 
-fn broken<D: Dialect>(dialect: &D, side: Side, due: Due, stage: &Stage) -> Option<Ending>
-    ensures { result ≡ rule.broken_on side (D.grammar dialect.now) due (is_some stage.now.out) stage.now.left.asking.items stage.now.left.answering.items }
+/// A link that ended inside a unit, of those that ask.
+fn cut_asker(stage: &Stage, looks: &[Look]) -> Option<Ending>
+    ensures { result ≡ (if wait.some_open stage.now.left.asking.opens.items then least_look Ending.Broken looks_cut looks.now else None) }
 {
-    let answering = stage.left.answering.as_slice();
-    if stage.out.is_some() {
-        return cut_among(dialect, due, answering);
-    }
-    let asking = stage.left.asking.as_slice();
-    let asker = if some_open(asking) {
-        cut_among(dialect, due, asking)
+    if some_open(stage.left.asking.as_slice()) {
+        cut_among(looks)
     } else {
         None
-    };
-    by_links(side, left_among(answering), asker)
+    }
+}
+
+fn broken(side: Side, stage: &Stage, looks: &[Look]) -> Option<Ending>
+    ensures { (g : Grammar) → looks.now ≡ looks_at g stage.now
+        → result ≡ rule.broken_on side g (rule.due_of g (seen_stage stage.now [])) (is_some stage.now.out) stage.now.left.asking.opens.items stage.now.left.answering.opens.items }
+{
+    match stage.out {
+        Some(_) => cut_among(looks),
+        None => {
+            let left = left_among(stage.left.answering.as_slice());
+            by_links(side, left, cut_asker(stage, looks))
+        }
+    }
 }
 
 fn is_over(one: &Open) -> bool
@@ -309,53 +329,50 @@ fn retired(limits: &Limits, stage: &Stage) -> Option<Ending>
 }
 
 /// What ends and counts say.
-fn end_trouble<D: Dialect>(dialect: &D, setup: &Setup, stage: &Stage) -> Option<Ending>
-    requires { HasAsked (D.grammar dialect.now) stage.now.out }
-    ensures { result ≡ rule.end_trouble (rules_of (D.grammar dialect.now) setup.now) (seen_stage stage.now []) }
+fn end_trouble(setup: &Setup, stage: &Stage, looks: &[Look]) -> Option<Ending>
+    ensures { (g : Grammar) → looks.now ≡ looks_at g stage.now
+        → result ≡ rule.end_trouble (rules_of g setup.now) (seen_stage stage.now []) }
 {
-    let cut = broken(dialect, setup.side, due_of(dialect, stage), stage);
+    let cut = broken(setup.side, stage, looks);
     let last = or_else(all_done(stage), retired(&setup.limits, stage));
     or_else(cut, or_else(closed(stage), last))
 }
 
-/// The disagreement of what the due links have said so far.
-fn disagreed<D: Dialect>(
-    alloc: Global,
-    dialect: &D,
-    setup: &Setup,
-    stage: &Stage,
-) -> Result<Option<Ending>, NoMemory>
-    requires asked { HasAsked (D.grammar dialect.now) stage.now.out }
-    requires limits { AreMaskLimits setup.now.limits.mask }
-    requires count { stage.now.count ≤ 65536 }
-    ensures { IfOk result (λ e. e ≡ rule.disagreed (rules_of (D.grammar dialect.now) setup.now) (seen_stage stage.now [])) }
+/// What is seen of the links on which a unit is due.
+pub(crate) fn looks_at<D: Dialect>(dialect: &D, due: Due, stage: &Stage) -> ArrayVec<Look, 8>
+    requires { due ≡ rule.due_of (D.grammar dialect.now) (seen_stage stage.now []) }
+    ensures { result.items ≡ looks_at (D.grammar dialect.now) stage.now }
 {
-    let due = due_of(dialect, stage);
-    let exchange = stage.count + 1;
-    early_fault(
-        alloc,
-        dialect,
-        setup.limits.mask,
-        exchange,
-        due,
-        due_opens(stage),
-    )
+    look_at(dialect, due, due_links(stage).as_slice())
 }
 
-/// The first trouble of where a session stands.
+/// The first trouble of where a session stands, by what is seen of the due links.
 pub(crate) fn trouble_of<D: Dialect>(
     alloc: Global,
     dialect: &D,
     setup: &Setup,
     stage: &Stage,
+    due: Due,
+    looks: &[Look],
 ) -> Result<Option<Ending>, NoMemory>
-    requires asked { HasAsked (D.grammar dialect.now) stage.now.out }
     requires limits { AreMaskLimits setup.now.limits.mask }
     requires count { stage.now.count ≤ 65536 }
+    requires due { due ≡ rule.due_of (D.grammar dialect.now) (seen_stage stage.now []) }
+    requires looks { looks.now ≡ looks_at (D.grammar dialect.now) stage.now }
     ensures { IfOk result (λ e. e ≡ rule.trouble_of (rules_of (D.grammar dialect.now) setup.now) (seen_stage stage.now [])) }
 {
-    let scans = scan_trouble(alloc, dialect, setup, stage)?;
-    let differs = disagreed(alloc, dialect, setup, stage)?;
-    let ends = end_trouble(dialect, setup, stage);
+    let links = due_links(stage);
+    let scans = scan_trouble(alloc, setup, stage, looks)?;
+    let exchange = stage.count + 1;
+    let differs = early_fault(
+        alloc,
+        dialect,
+        setup.limits.mask,
+        exchange,
+        due,
+        links,
+        looks,
+    )?;
+    let ends = end_trouble(setup, stage, looks);
     Ok(or_else(scans, or_else(differs, ends)))
 }

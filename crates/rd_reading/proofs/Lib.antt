@@ -7,3 +7,5 @@ pub mod OneList
 pub mod InFront
 pub mod EqualUnits
 pub mod CutBack
+pub mod OneFront
+pub mod Lengths

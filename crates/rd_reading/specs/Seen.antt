@@ -16,7 +16,7 @@ abbrev pub seen_exchange : DoneExchange → rule.Exchange
 seen_exchange x = record { ask = seen_request x.request; replies = x.replies.units.items }
 
 abbrev pub seen_front : Front → rule.Front
-seen_front f = record { phase = f.phase; asking = f.asking.items; answering = f.answering.items }
+seen_front f = record { phase = f.phase; asking = f.asking.opens.items; answering = f.answering.opens.items }
 
 -- what is open: past what was read, else as before
 abbrev pub latest_front : Front → Option Front → Front

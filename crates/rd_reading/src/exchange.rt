@@ -1,6 +1,4 @@
-ghost use Rattle.std.specs.Prelude.{◌≤◌, length};
-
-use crate::opens::Open;
+use crate::links::Links;
 use crate::unit::LinkUnit;
 use rd_base::{Phase, Rows};
 
@@ -27,16 +25,12 @@ pub struct DoneExchange {
     pub replies: Replies,
 }
 
-/// What is open before an exchange, of 1 to 8 links on either side.
+/// What is open before an exchange.
 #[derive(Drop)]
 pub struct Front {
     pub phase: Phase,
-    pub asking: Vec<Open>,
-    pub answering: Vec<Open>,
-    ghost some_ask: { 1 ≤ length asking.items },
-    ghost few_ask: { length asking.items ≤ 8 },
-    ghost some_answer: { 1 ≤ length answering.items },
-    ghost few_answer: { length answering.items ≤ 8 },
+    pub asking: Links,
+    pub answering: Links,
 }
 
 /// What was read of a front: the exchanges, what is open past them where there are any, the request that is out, and

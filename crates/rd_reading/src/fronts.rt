@@ -1,15 +1,86 @@
-ghost use Rattle.std.specs.Prelude.{◌≡◌, true, IfSome};
+ghost use Rattle.std.specs.Prelude.{◌≡◌, ◌<◌, true, map, length, IfSome};
 ghost use Rattle.rd_dialect.specs.Due.{IsDue};
 ghost use Rattle.rd_rules.specs.Exchange as rule;
 ghost use Rattle.rd_reading.specs.Alike.{HaveFronts, in_front, all_in_front};
+ghost use Rattle.rd_reading.specs.Looks.{look_of, fits, all_fit, fit_one};
 
+use crate::links::Links;
+use crate::looks::Look;
 use crate::opens::{Open, scan_open};
 use rd_base::Scan;
 use rd_dialect::{Dialect, Due};
 
 /// Whether all that the due links have said of their units is the front of one unit, or of one part of a unit: true
-/// only if so.
-pub(crate) fn have_fronts<D: Dialect>(dialect: &D, due: Due, opens: &[Open]) -> bool
+/// only if so. Of links that are known to be alike the lengths tell.
+pub(crate) fn have_fronts<D: Dialect>(dialect: &D, due: Due, links: &Links, looks: &[Look]) -> bool
+    requires { looks.now ≡ map (look_of (D.grammar dialect.now) due) links.now.opens.items }
+    ensures { result ≡ true → HaveFronts (D.grammar dialect.now) due links.now.opens.items }
+{
+    if !links.alike {
+        return are_fronts_of_one(dialect, due, links.as_slice());
+    }
+    match longest_look(looks) {
+        Some(place) => fit_one(looks[place], looks),
+        None => false,
+    }
+}
+
+/// The place of the longest of what the links have said of their units.
+fn longest_look(looks: &[Look]) -> Option<usize>
+    ensures { IfSome result (λ place. place < length looks.now) }
+{
+    let mut longest = None;
+    let mut most = None;
+    for place in 0..looks.len() {
+        let len = said_len(looks[place]);
+        if len > most {
+            longest = Some(place);
+            most = len;
+        }
+    }
+    longest
+}
+
+/// How much is there of a link's due unit. None where no unit can come of its bytes.
+fn said_len(look: Look) -> Option<usize> {
+    match look.scan {
+        Scan::Whole(len) => Some(len),
+        Scan::More => Some(look.len),
+        Scan::Bad | Scan::TooBig | Scan::Unsupported(_) => None,
+    }
+}
+
+/// Whether all fit what is there of one.
+fn fit_one(top: Look, looks: &[Look]) -> bool
+    ensures { result ≡ fit_one top.len top.scan looks.now }
+{
+    match top.scan {
+        Scan::Whole(len) => all_fit(true, len, looks),
+        Scan::More => all_fit(false, top.len, looks),
+        Scan::Bad | Scan::TooBig | Scan::Unsupported(_) => false,
+    }
+}
+
+fn all_fit(whole: bool, most: usize, looks: &[Look]) -> bool
+    ensures { result ≡ all_fit whole most looks.now }
+{
+    looks
+        .iter()
+        .all(|look| fits(whole, most, look.len, look.scan))
+}
+
+fn fits(whole: bool, most: usize, size: usize, scan: Scan) -> bool
+    ensures { result ≡ fits whole most size scan }
+{
+    match scan {
+        Scan::Whole(len) => whole && len == most,
+        Scan::More => size <= most,
+        Scan::Bad | Scan::TooBig | Scan::Unsupported(_) => true,
+    }
+}
+
+/// The same by the bytes of links that aren't known to be alike.
+fn are_fronts_of_one<D: Dialect>(dialect: &D, due: Due, opens: &[Open]) -> bool
     ensures { result ≡ true → HaveFronts (D.grammar dialect.now) due opens.now }
 {
     match longest(dialect, due, opens) {

@@ -5,6 +5,7 @@ ghost use Rattle.rd_reading.specs.Extents.{extent_of, all_cut_back};
 ghost use Rattle.rd_reading.specs.Seen.{seen_front};
 
 use crate::exchange::Front;
+use crate::links::{Links, are_fronts, stay_alike};
 use crate::opens::Open;
 use arrayvec::ArrayVec;
 use rd_base::{NoMemory, What};
@@ -62,33 +63,55 @@ fn grow_all(opens: &mut Vec<Open>, extents: &[Extent], what: &What) -> Result<()
     Ok(())
 }
 
+/// Hears a happening on each of these links that it is of. It answers the extents before it.
+fn grow_links(links: &mut Links, what: &What) -> Result<ArrayVec<Extent, 8>, NoMemory>
+    requires { All (HasRoom what.now) links.old.opens.items }
+    ensures ok { OnOk result (links.new.opens.items ≡ map (grow_by what.now) links.old.opens.items) }
+    ensures extents { IfOk result (λ e. e.items ≡ map extent_of links.old.opens.items) }
+    ensures err { OnErr result (links.new.opens.items ≡ links.old.opens.items) }
+{
+    let extents = extents_of(links.opens.as_slice());
+    grow_all(&mut links.opens, extents.as_slice(), what)?;
+    links.alike = links.alike && stay_alike(links.opens.as_slice(), extents.as_slice());
+    Ok(extents)
+}
+
+/// Cuts each of these links back to its extent. They are alike again where they were.
+fn cut_links_back(links: &mut Links, extents: &[Extent])
+    requires { length extents.now ≡ length links.old.opens.items }
+    ensures { links.new.opens.items ≡ all_cut_back extents.now links.old.opens.items }
+{
+    cut_all_back(&mut links.opens, extents);
+    links.alike = are_fronts(links.opens.as_slice());
+}
+
 /// Hears a happening in place. It answers the extents before it, by which it is undone.
 pub fn grow_front(front: &mut Front, what: &What) -> Result<Extents, NoMemory>
-    requires asking { All (HasRoom what.now) front.old.asking.items }
-    requires answering { All (HasRoom what.now) front.old.answering.items }
+    requires asking { All (HasRoom what.now) front.old.asking.opens.items }
+    requires answering { All (HasRoom what.now) front.old.answering.opens.items }
     ensures ok { OnOk result (seen_front front.new ≡ grow_front_by what.now (seen_front front.old)) }
-    ensures asked { IfOk result (λ e. e.asking.items ≡ map extent_of front.old.asking.items) }
-    ensures answered { IfOk result (λ e. e.answering.items ≡ map extent_of front.old.answering.items) }
+    ensures asked { IfOk result (λ e. e.asking.items ≡ map extent_of front.old.asking.opens.items) }
+    ensures answered { IfOk result (λ e. e.answering.items ≡ map extent_of front.old.answering.opens.items) }
     ensures err { OnErr result (seen_front front.new ≡ seen_front front.old) }
 {
-    let asking = extents_of(front.asking.as_slice());
-    let answering = extents_of(front.answering.as_slice());
-    grow_all(&mut front.asking, asking.as_slice(), what)?;
-    if let Err(refused) = grow_all(&mut front.answering, answering.as_slice(), what) {
-        cut_all_back(&mut front.asking, asking.as_slice());
-        return Err(refused);
+    let asking = grow_links(&mut front.asking, what)?;
+    match grow_links(&mut front.answering, what) {
+        Ok(answering) => Ok(Extents { asking, answering }),
+        Err(refused) => {
+            cut_links_back(&mut front.asking, asking.as_slice());
+            Err(refused)
+        }
     }
-    Ok(Extents { asking, answering })
 }
 
 /// Undoes what was heard since these were the extents.
 pub fn cut_front_back(front: &mut Front, extents: &Extents)
-    requires asking { length extents.now.asking.items ≡ length front.old.asking.items }
-    requires answering { length extents.now.answering.items ≡ length front.old.answering.items }
+    requires asking { length extents.now.asking.items ≡ length front.old.asking.opens.items }
+    requires answering { length extents.now.answering.items ≡ length front.old.answering.opens.items }
     ensures phase { front.new.phase ≡ front.old.phase }
-    ensures asking { front.new.asking.items ≡ all_cut_back extents.now.asking.items front.old.asking.items }
-    ensures answering { front.new.answering.items ≡ all_cut_back extents.now.answering.items front.old.answering.items }
+    ensures asking { front.new.asking.opens.items ≡ all_cut_back extents.now.asking.items front.old.asking.opens.items }
+    ensures answering { front.new.answering.opens.items ≡ all_cut_back extents.now.answering.items front.old.answering.opens.items }
 {
-    cut_all_back(&mut front.asking, extents.asking.as_slice());
-    cut_all_back(&mut front.answering, extents.answering.as_slice());
+    cut_links_back(&mut front.asking, extents.asking.as_slice());
+    cut_links_back(&mut front.answering, extents.answering.as_slice());
 }

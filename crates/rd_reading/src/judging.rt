@@ -9,10 +9,13 @@ ghost use Rattle.rd_rules.specs.Given.{agreed_mask, learnt_rows};
 ghost use Rattle.rd_rules.specs.Trouble.{judge_by, blamed as rule_blamed};
 ghost use Rattle.rd_reading.specs.Room.{room, flat_room};
 ghost use Rattle.rd_reading.specs.Heard.{left_due};
+ghost use Rattle.rd_reading.specs.Looks.{look_of};
 ghost use Rattle.rd_base.specs.Token.{Token, token_of};
 ghost use Rattle.rd_reading.specs.Alike.{AreJudged, are_units};
 
 use crate::fronts::have_fronts;
+use crate::links::Links;
+use crate::looks::Look;
 use crate::opens::{Open, scan_open};
 use crate::unit::{LinkUnit, first_bytes, push_unit};
 use rd_base::{Bytes, Ending, Mask, MaskLimits, NoMemory, Rows, Scan, Verdict};
@@ -293,16 +296,17 @@ pub fn early_fault<D: Dialect>(
     most: MaskLimits,
     exchange: u32,
     due: Due,
-    opens: &[Open],
+    links: &Links,
+    looks: &[Look],
 ) -> Result<Option<Ending>, NoMemory>
-    requires few { length opens.now ≤ 8 }
     requires limits { AreMaskLimits most }
-    ensures { IfOk result (λ e. e ≡ judge_by most exchange (map (heard (D.grammar dialect.now) due) opens.now)) }
+    requires looks { looks.now ≡ map (look_of (D.grammar dialect.now) due) links.now.opens.items }
+    ensures { IfOk result (λ e. e ≡ judge_by most exchange (map (heard (D.grammar dialect.now) due) links.now.opens.items)) }
 {
-    if have_fronts(dialect, due, opens) {
+    if have_fronts(dialect, due, links, looks) {
         return Ok(None);
     }
-    let early = hear(alloc, dialect, due, opens)?;
+    let early = hear(alloc, dialect, due, links.as_slice())?;
     Ok(fault_of(most, exchange, early))
 }
 

@@ -76,6 +76,14 @@ impl Open {
         })
     }
 
+    /// The first bytes that are open.
+    pub(crate) fn front(&self, len: usize) -> &[u8]
+        ensures { result.now ≡ take len self.now.bytes }
+    {
+        let bytes = self.bytes();
+        &bytes[..len.min(bytes.len())]
+    }
+
     /// How much is open.
     pub(crate) fn extent(&self) -> Extent
         ensures { result ≡ extent_of self.now }

@@ -9,6 +9,7 @@ ghost use Rattle.rd_reading.specs.Seen.{seen_request, seen_exchange, seen_front,
 
 use crate::exchange::{DoneExchange, Front, Reading, Replies, Request};
 use crate::judging::{WholeUnits, agreement, rows_learnt, whole_units};
+use crate::links::Links;
 use crate::opens::{Open, empty_units, grown_opens, past_units};
 use crate::setup::Setup;
 use crate::unit::first_bytes;
@@ -134,8 +135,8 @@ fn after_exchange<D: Dialect>(
     let answering = past_units(alloc, front.answering.as_slice(), replies)?;
     Ok(Front {
         phase,
-        asking,
-        answering,
+        asking: Links::of(asking),
+        answering: Links::of(answering),
     })
 }
 
@@ -216,15 +217,21 @@ pub fn read_on<'a, D: Dialect>(
 
 /// A copy of what is open once a happening is heard.
 pub fn grown_front(alloc: Global, front: &Front, what: &What) -> Result<Front, NoMemory>
-    requires asking { All (HasRoom what.now) front.now.asking.items }
-    requires answering { All (HasRoom what.now) front.now.answering.items }
+    requires asking { All (HasRoom what.now) front.now.asking.opens.items }
+    requires answering { All (HasRoom what.now) front.now.answering.opens.items }
     ensures { IfOk result (λ f. seen_front f ≡ grow_front_by what.now (seen_front front.now)) }
 {
     let asking = grown_opens(alloc, front.asking.as_slice(), what)?;
     let answering = grown_opens(alloc, front.answering.as_slice(), what)?;
     Ok(Front {
         phase: front.phase,
-        asking,
-        answering,
+        asking: Links {
+            opens: asking,
+            alike: false,
+        },
+        answering: Links {
+            opens: answering,
+            alike: false,
+        },
     })
 }

@@ -4,6 +4,7 @@ ghost use Rattle.rd_rules.specs.Exchange as rule;
 ghost use Rattle.rd_reading.specs.Seen.{seen_front, rules_of};
 
 use crate::exchange::Front;
+use crate::links::Links;
 use crate::opens::{Open, push_open};
 use crate::setup::Setup;
 use rd_base::{Link, NoMemory, Side};
@@ -22,13 +23,13 @@ pub fn start_front<D: Dialect>(alloc: Global, dialect: &D, setup: &Setup) -> Res
     match setup.side {
         Side::Incoming => Ok(Front {
             phase,
-            asking: single,
-            answering: copies,
+            asking: Links::of(single),
+            answering: Links::of(copies),
         }),
         Side::Outgoing => Ok(Front {
             phase,
-            asking: copies,
-            answering: single,
+            asking: Links::of(copies),
+            answering: Links::of(single),
         }),
     }
 }

@@ -6,6 +6,7 @@ use Rattle.rd_base.specs.declared.values.Ending.{Ending}
 use Rattle.rd_rules.specs.Exchange as rule
 use Rattle.rd_rules.specs.Step.{given_now, grow_front_by}
 use Rattle.rd_rules.specs.Wait.{Wait}
+use Rattle.rd_rules.proofs.Outs.{ask_grows}
 use Rattle.rd_rules.specs.Trouble.{Now, full_log_at, or_else, unsolicited_by}
 use Rattle.rd_core.specs.Faults.{fault_by}
 use Rattle.rd_reading.specs.Seen.{rules_of, seen_front, seen_request}
@@ -24,6 +25,14 @@ use Rattle.rd_core.proofs.step.take_step.Goals as goal
 pub grow_front-requires-clause-asking : goal.grow_front-requires-clause-asking
 grow_front-requires-clause-asking g c =
     has_room_asking c.args.setup.now c.args.stage.now c.args.clock.entries c.args.happening.now.what c.requires.kept.limits.most_unit c.requires.sized (c.requires.kept.more refl)
+
+pub go_on-requires-clause-out : goal.go_on-requires-clause-out
+go_on-requires-clause-out g c = λ ask is.
+    let grammar = g.D.Dialect.grammar c.args.dialect.now in
+    let most = c.args.setup.now.limits.mask in
+    let what = c.args.happening.now.what in
+    ap (rule.ask_at grammar most) c.in_ok-extents.ensures.ok
+    ∙ ask_grows grammar (g.met.D.Dialect.lawful c.args.dialect.now) most what (seen_front c.args.stage.now.left) ask (c.requires.kept.out ask is)
 
 -- ---- a step that is withheld
 

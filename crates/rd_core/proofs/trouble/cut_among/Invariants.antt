@@ -1,7 +1,7 @@
 use Rattle.std.proofs.Common.{◌≡◌, drop}
-use Rattle.rd_rules.specs.Trouble as rule
 use Rattle.rd_base.specs.declared.values.Ending.TheVariants as ending
+use Rattle.rd_core.specs.Looks.{least_look, looks_cut}
 use Rattle.rd_core.proofs.trouble.cut_among.Given as goal
 
-abbrev pub invariant-loop-one : goal.invariant-loop-one
-invariant-loop-one g l = rule.least_open ending.Broken (rule.is_cut (g.D.Dialect.grammar l.dialect) l.due) l.opens ≡ rule.least_open ending.Broken (rule.is_cut (g.D.Dialect.grammar l.dialect) l.due) (drop l.one-index l.opens)
+abbrev pub invariant-loop-look : goal.invariant-loop-look
+invariant-loop-look l = least_look ending.Broken looks_cut l.looks ≡ least_look ending.Broken looks_cut (drop l.look-index l.looks)

@@ -1,6 +1,6 @@
 use Rattle.std.proofs.Common.{◌≡◌, drop}
-use Rattle.rd_rules.specs.Trouble as rule
+use Rattle.rd_core.specs.Looks.{unsupported_look}
 use Rattle.rd_core.proofs.trouble.unsupported.Given as goal
 
-abbrev pub invariant-loop-one : goal.invariant-loop-one
-invariant-loop-one g l = rule.unsupported_in (g.D.Dialect.grammar l.dialect) l.due l.opens ≡ rule.unsupported_in (g.D.Dialect.grammar l.dialect) l.due (drop l.one-index l.opens)
+abbrev pub invariant-loop-look : goal.invariant-loop-look
+invariant-loop-look l = unsupported_look l.looks ≡ unsupported_look (drop l.look-index l.looks)

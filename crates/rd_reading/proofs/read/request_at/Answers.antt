@@ -8,8 +8,8 @@ pub returns-in-Some-agreement-clause-whole : goal.returns-in-Some-agreement-clau
 returns-in-Some-agreement-clause-whole g c =
     let grammar = g.D.Dialect.grammar c.args.dialect.now in
     let phase = c.args.front.now.phase in
-    asked_whole grammar (g.met.D.Dialect.lawful c.args.dialect.now) phase c.args.front.now.asking.items c.in-Some.field-0.units.items c.args.front.now.some_ask
-    (ap (λ d. units grammar d c.args.front.now.asking.items) (sym c.request.ensures)
+    asked_whole grammar (g.met.D.Dialect.lawful c.args.dialect.now) phase c.args.front.now.asking.opens.items c.in-Some.field-0.units.items c.args.front.now.asking.some_links
+    (ap (λ d. units grammar d c.args.front.now.asking.opens.items) (sym c.request.ensures)
     ∙ ap (units grammar c.request.result) (sym c.as_slice.ensures.value)
     ∙ sym c.in_ok-found.ensures.units
     ∙ ap (option_map (λ w. w.units.items)) c.in-Some.is)

@@ -12,6 +12,9 @@ use Rattle.rd_core.proofs.Moves.{first_stage, has_more, is_out_after, start_fits
 use Rattle.rd_core.proofs.Taken.{start_at}
 use Rattle.rd_core.proofs.session.Session.new.Goals as goal
 
+pub go_on-requires-clause-out : goal.go_on-requires-clause-out
+go_on-requires-clause-out g c = λ ask is. absurd (cc is)
+
 pub invariant_of-result : goal.invariant_of-result
 invariant_of-result g c =
     let grammar = g.D.Dialect.grammar c.args.dialect in
