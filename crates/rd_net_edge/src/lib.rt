@@ -18,6 +18,3 @@ pub use links::{TcpSink, TcpSource};
 pub use real_clock::RealClock;
 pub use stop_flag::StopFlag;
 pub use tcp_doors::TcpDoors;
-
-#[cfg(test)]
-mod tests;

@@ -1,5 +1,5 @@
 -- That the words of a request are those of its head.
-use Rattle.std.proofs.Common.{◌≡◌, ℕ, ◌<◌, ◌≤◌, ◌+◌, ◌&&◌, true, false, Bool, List, [], ◌∷◌, ◌++◌, length, take, drop, refl, sym, ap, ◌∙◌, subst, arith}
+use Rattle.std.proofs.Common.{◌≡◌, ℕ, ◌+◌, ◌&&◌, true, false, Bool, List, [], ◌∷◌, ◌++◌, length, take, drop, refl, sym, ap, ◌∙◌, arith}
 use Rattle.std.specs.List.{prefix_len, AllPass, list_all}
 use Rattle.std.proofs.lemmas.Bool.Decides.{nat_tests}
 use Rattle.std.proofs.Math.Seq.{take-append_seam}
@@ -8,7 +8,7 @@ use Rattle.std.proofs.lemmas.List.Elements.{All-head, All-tail}
 use Rattle.httparse.specs.Grammar.{is_token_byte, RequestHead, ReadsRequest, print_end}
 use Rattle.rd_http_frame.specs.Fronts.{after_front, is_target_byte}
 use Rattle.rd_http_frame.proofs.HeadLines.{head_front, drop-word, from_version}
-use Rattle.rd_operator.specs.Asked.{is_word_byte, word, method_of, path_of}
+use Rattle.rd_operator.specs.Asked.{is_word_byte, word, method_of}
 use Rattle.rd_operator.specs.HeadWords.{is_no_query, before_query, AreOfHead}
 
 token_is_word : (b : ℕ) → is_token_byte b ≡ true → is_word_byte b ≡ true

@@ -1,7 +1,6 @@
 -- What is heard of a source, an answer further.
-use Rattle.std.proofs.Common.{◌≡◌, ℕ, ◌<◌, ◌≤◌, ◌+◌, ◌-◌, Bool, true, false, nat_le, List, [], ◌∷◌, ◌++◌, length, length-take, length-append, append_assoc, append-nil, refl, sym, ap, ◌∙◌, subst, arith, inl, inr, fold, Option, if◌then◌else◌}
+use Rattle.std.proofs.Common.{◌≡◌, ℕ, ◌<◌, ◌≤◌, Bool, true, false, nat_le, List, [], ◌∷◌, ◌++◌, length, length-take, append_assoc, refl, sym, ap, ◌∙◌, subst, arith, inl, inr, fold, Option, if◌then◌else◌}
 use Rattle.std.specs.Prelude.{MatchBool, Result, Ok, Err, OnOk, is_err}
-use Rattle.std.specs.List.{list_all}
 use Rattle.std.proofs.lemmas.Bool.Decides.{nat_tests}
 use Rattle.std.proofs.lemmas.List.Sums.{fold-append}
 use Rattle.rd_base.specs.declared.values.Scan.{Scan}

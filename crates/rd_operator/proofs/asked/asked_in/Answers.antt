@@ -1,4 +1,3 @@
-use Rattle.std.proofs.lemmas.Str.{IsUtf8-from_ascii}
 use Rattle.rd_operator.proofs.Words.{word_is_text}
 use Rattle.rd_operator.proofs.asked.asked_in.Goals as goal
 

@@ -1,6 +1,6 @@
-use Rattle.std.proofs.Common.{sym, ◌∙◌, ap, subst}
+use Rattle.std.proofs.Common.{sym, ◌∙◌, ap}
 use Rattle.rd_base.specs.declared.source.Give.TheVariants as give
-use Rattle.rd_operator.specs.Hearing.{is_part, Takes}
+use Rattle.rd_operator.specs.Hearing.{is_part}
 use Rattle.rd_operator.proofs.Heard.{appended, piece_on, stops_whole, stops_ended, stops_failed, starves}
 use Rattle.rd_operator.proofs.hearing.hear.Goals as goal
 

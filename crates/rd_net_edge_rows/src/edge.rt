@@ -1,5 +1,5 @@
-use crate::{Flag, RealClock, StopFlag};
 use rd_base::{Clock, Stopper};
+use rd_net_edge::{Flag, RealClock, StopFlag};
 use std::test::Fail;
 
 #[test]
