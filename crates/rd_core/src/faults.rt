@@ -23,7 +23,8 @@ fn is_past(scan: Scan, len: usize) -> bool
 /// Whether these bytes of a link that answers go past the reply that is out.
 fn goes_past<D: Dialect>(dialect: &D, out: &Option<Request>, bytes: &[u8]) -> bool
     requires { HasAsked (D.grammar dialect.now) out.now }
-    ensures { result ≡ rule.goes_past (D.grammar dialect.now) (option_map seen_request out.now) bytes.now }
+    ensures { result ≡ rule.goes_past (D.grammar dialect.now)
+        (option_map seen_request out.now) bytes.now }
 {
     match out {
         None => true,
@@ -37,7 +38,8 @@ fn goes_past<D: Dialect>(dialect: &D, out: &Option<Request>, bytes: &[u8]) -> bo
 /// Whether a link that answers was heard, and its bytes go past the reply that is out on it.
 fn speaks_past<D: Dialect>(dialect: &D, out: &Option<Request>, link: Link, one: &Open) -> bool
     requires { HasAsked (D.grammar dialect.now) out.now }
-    ensures { result ≡ ((one.now.link == link.0) && rule.goes_past (D.grammar dialect.now) (option_map seen_request out.now) one.now.bytes) }
+    ensures { result ≡ ((one.now.link == link.0) && rule.goes_past (D.grammar dialect.now)
+        (option_map seen_request out.now) one.now.bytes) }
 {
     if one.link() != link {
         return false;
@@ -52,7 +54,8 @@ fn unsolicited_among<D: Dialect>(
     opens: &[Open],
 ) -> Option<Ending>
     requires { HasAsked (D.grammar dialect.now) out.now }
-    ensures { result ≡ past_among (D.grammar dialect.now) (option_map seen_request out.now) link.0 opens.now }
+    ensures { result ≡ past_among (D.grammar dialect.now)
+        (option_map seen_request out.now) link.0 opens.now }
 {
     for one in opens {
         if speaks_past(dialect, out, link, one) {
@@ -70,7 +73,9 @@ pub(crate) fn unsolicited<D: Dialect>(
     what: &What,
 ) -> Option<Ending>
     requires { HasAsked (D.grammar dialect.now) out.now }
-    ensures { (before : rule.Now) → before.out ≡ option_map seen_request out.now → answering.now ≡ map (grow_by what.now) before.left.answering → result ≡ rule.unsolicited_by (D.grammar dialect.now) before what.now }
+    ensures { (before : rule.Now) → before.out ≡ option_map seen_request out.now
+        → answering.now ≡ map (grow_by what.now) before.left.answering
+        → result ≡ rule.unsolicited_by (D.grammar dialect.now) before what.now }
 {
     let What::Piece(link, _) = what else {
         return None;

@@ -59,7 +59,9 @@ fn in_fresh(was_out: bool, done: &[DoneExchange], out: &Option<Request>) -> u64
 /// How many places are masked in what a step agrees on.
 pub(crate) fn masked_in(side: Side, was_out: bool, reading: &Reading) -> u64
     requires { length reading.now.done.items ≤ 65536 }
-    ensures is { (r : Rules) → All (AreMasked r) reading.now.done.items → IfSome reading.now.out (IsMasked r) → result ≡ masked_now side r was_out (seen_reading reading.now) }
+    ensures is { (r : Rules) → All (AreMasked r) reading.now.done.items
+        → IfSome reading.now.out (IsMasked r) → result
+        ≡ masked_now side r was_out (seen_reading reading.now) }
     ensures most { result ≤ 16777216 }
 {
     match side {

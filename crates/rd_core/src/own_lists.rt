@@ -32,7 +32,10 @@ impl<'a> OwnLists<'a> {
         own: &'a OwnRows,
         done: &[DoneExchange],
     ) -> Result<OwnLists<'a>, NoMemory>
-        ensures { IfOk result (λ lists. lists ≡ record { own = own.now; after = owns_after own.now done.now }) }
+        ensures { IfOk result (λ lists. lists ≡ record {
+          own = own.now;
+          after = owns_after own.now done.now;
+        }) }
     {
         let mut lists = OwnLists {
             own,
@@ -46,7 +49,10 @@ impl<'a> OwnLists<'a> {
 
     /// Adds the own rows after those of one exchange more.
     fn learn(&mut self, alloc: Global, rows: &Rows) -> Result<(), NoMemory>
-        ensures { OnOk result (self.new ≡ record { own = self.old.own; after = self.old.after ++ learnt (last_own self.old) rows.now ∷ [] }) }
+        ensures { OnOk result (self.new ≡ record {
+          own = self.old.own;
+          after = self.old.after ++ learnt (last_own self.old) rows.now ∷ [];
+        }) }
     {
         let later = self.later(alloc, rows)?;
         match self.after.push(later) {
@@ -57,7 +63,8 @@ impl<'a> OwnLists<'a> {
 
     /// The own rows after those of one exchange more. None where the step has learnt none.
     fn later(&self, alloc: Global, rows: &Rows) -> Result<Option<OwnRows>, NoMemory>
-        ensures { IfOk result (λ o. latest_of self.now.own o ≡ learnt (last_own self.now) rows.now) }
+        ensures { IfOk result (λ o. latest_of self.now.own o
+            ≡ learnt (last_own self.now) rows.now) }
     {
         let count = self.after.len();
         if count == 0 {
@@ -102,7 +109,8 @@ pub(crate) fn after_rows(
     before: &Option<OwnRows>,
     rows: &Rows,
 ) -> Result<Option<OwnRows>, NoMemory>
-    ensures { IfOk result (λ o. latest_of own.now o ≡ learnt (latest_of own.now before.now) rows.now) }
+    ensures { IfOk result (λ o. latest_of own.now o
+        ≡ learnt (latest_of own.now before.now) rows.now) }
 {
     if before.is_none() && rows.len() == 0 {
         return Ok(None);

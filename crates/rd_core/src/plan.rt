@@ -69,10 +69,20 @@ pub(crate) fn plan_of<D: Dialect>(
 ) -> Result<Plan, NoMemory>
     requires limits { AreLimits setup.now.limits }
     requires count { stage.now.count ≤ setup.now.limits.exchanges_max }
-    ensures next { IfOk result (λ p. seen_next stage.now.left p.next (latest_of own.now p.own) ≡ now_from (rules_of (D.grammar dialect.now) setup.now) stage.now.count stage.now.bye own.now (read_now (rules_of (D.grammar dialect.now) setup.now) stage.now)) }
-    ensures sends { IfOk result (λ p. p.sends ≡ sends_to (setup.now.limits.copies + 1) (λ link. given_now (rules_of (D.grammar dialect.now) setup.now) link own.now told.now (is_some stage.now.out) (read_now (rules_of (D.grammar dialect.now) setup.now) stage.now))) }
-    ensures rows { IfOk result (λ p. p.rows ≡ flat_map (exchange_rows (rules_of (D.grammar dialect.now) setup.now)) (read_now (rules_of (D.grammar dialect.now) setup.now) stage.now).done) }
-    ensures masked { IfOk result (λ p. p.masked ≡ masked_now setup.now.side (rules_of (D.grammar dialect.now) setup.now) (is_some stage.now.out) (read_now (rules_of (D.grammar dialect.now) setup.now) stage.now)) }
+    ensures next { IfOk result (λ p. seen_next stage.now.left p.next (latest_of own.now p.own)
+        ≡ now_from (rules_of (D.grammar dialect.now)
+        setup.now) stage.now.count stage.now.bye own.now
+        (read_now (rules_of (D.grammar dialect.now) setup.now) stage.now)) }
+    ensures sends { IfOk result (λ p. p.sends ≡ sends_to (setup.now.limits.copies + 1)
+        (λ link. given_now (rules_of (D.grammar dialect.now) setup.now)
+        link own.now told.now (is_some stage.now.out)
+        (read_now (rules_of (D.grammar dialect.now) setup.now) stage.now))) }
+    ensures rows { IfOk result (λ p. p.rows ≡ flat_map
+        (exchange_rows (rules_of (D.grammar dialect.now) setup.now))
+        (read_now (rules_of (D.grammar dialect.now) setup.now) stage.now).done) }
+    ensures masked { IfOk result (λ p. p.masked ≡ masked_now setup.now.side
+        (rules_of (D.grammar dialect.now) setup.now) (is_some stage.now.out)
+        (read_now (rules_of (D.grammar dialect.now) setup.now) stage.now)) }
     ensures few_masked { IfOk result (λ p. p.masked ≤ 16777216) }
     ensures count { IfOk result (λ p. p.next.count ≤ setup.now.limits.exchanges_max) }
     ensures asked { IfOk result (λ p. HasAsked (D.grammar dialect.now) p.next.out) }
@@ -161,7 +171,8 @@ fn wait_on<D: Dialect>(
     requires limits { AreLimits setup.now.limits }
     requires count { stage.now.count ≤ setup.now.limits.exchanges_max }
     requires asked { HasAsked (D.grammar dialect.now) stage.now.out }
-    ensures { IfOk result (λ o. IfSome o (λ p. IsQuiet (D.grammar dialect.now) setup.now stage.now p)) }
+    ensures { IfOk result (λ o.
+        IfSome o (λ p. IsQuiet (D.grammar dialect.now) setup.now stage.now p)) }
 {
     let due = due_of(dialect, stage);
     let looks = looks_at(dialect, due, stage);
@@ -188,7 +199,8 @@ fn trouble_at<D: Dialect>(
     requires asked { HasAsked (D.grammar dialect.now) stage.now.out }
     requires limits { AreMaskLimits setup.now.limits.mask }
     requires count { stage.now.count ≤ 65536 }
-    ensures { IfOk result (λ e. e ≡ trouble_of (rules_of (D.grammar dialect.now) setup.now) (seen_stage stage.now [])) }
+    ensures { IfOk result (λ e. e ≡ trouble_of (rules_of (D.grammar dialect.now) setup.now)
+        (seen_stage stage.now [])) }
 {
     let due = due_of(dialect, stage);
     let looks = looks_at(dialect, due, stage);
@@ -206,11 +218,22 @@ fn read_further<D: Dialect>(
 ) -> Result<Outcome, NoMemory>
     requires limits { AreLimits setup.now.limits }
     requires count { stage.old.count ≤ setup.now.limits.exchanges_max }
-    ensures stage { IfOk result (λ p. seen_stage stage.new (latest_of own.now p.own) ≡ now_from (rules_of (D.grammar dialect.now) setup.now) stage.old.count stage.old.bye own.now (read_now (rules_of (D.grammar dialect.now) setup.now) stage.old)) }
-    ensures trouble { IfOk result (λ p. p.trouble ≡ trouble_of (rules_of (D.grammar dialect.now) setup.now) (seen_stage stage.new [])) }
-    ensures sends { IfOk result (λ p. p.sends ≡ sends_to (setup.now.limits.copies + 1) (λ link. given_now (rules_of (D.grammar dialect.now) setup.now) link own.now told.now (is_some stage.old.out) (read_now (rules_of (D.grammar dialect.now) setup.now) stage.old))) }
-    ensures rows { IfOk result (λ p. p.rows ≡ flat_map (exchange_rows (rules_of (D.grammar dialect.now) setup.now)) (read_now (rules_of (D.grammar dialect.now) setup.now) stage.old).done) }
-    ensures masked { IfOk result (λ p. p.masked ≡ masked_now setup.now.side (rules_of (D.grammar dialect.now) setup.now) (is_some stage.old.out) (read_now (rules_of (D.grammar dialect.now) setup.now) stage.old)) }
+    ensures stage { IfOk result (λ p. seen_stage stage.new (latest_of own.now p.own)
+        ≡ now_from (rules_of (D.grammar dialect.now)
+        setup.now) stage.old.count stage.old.bye own.now
+        (read_now (rules_of (D.grammar dialect.now) setup.now) stage.old)) }
+    ensures trouble { IfOk result (λ p. p.trouble
+        ≡ trouble_of (rules_of (D.grammar dialect.now) setup.now) (seen_stage stage.new [])) }
+    ensures sends { IfOk result (λ p. p.sends ≡ sends_to (setup.now.limits.copies + 1)
+        (λ link. given_now (rules_of (D.grammar dialect.now) setup.now)
+        link own.now told.now (is_some stage.old.out)
+        (read_now (rules_of (D.grammar dialect.now) setup.now) stage.old))) }
+    ensures rows { IfOk result (λ p. p.rows ≡ flat_map
+        (exchange_rows (rules_of (D.grammar dialect.now) setup.now))
+        (read_now (rules_of (D.grammar dialect.now) setup.now) stage.old).done) }
+    ensures masked { IfOk result (λ p. p.masked ≡ masked_now setup.now.side
+        (rules_of (D.grammar dialect.now) setup.now) (is_some stage.old.out)
+        (read_now (rules_of (D.grammar dialect.now) setup.now) stage.old)) }
     ensures few_masked { IfOk result (λ p. p.masked ≤ 16777216) }
     ensures count { OnOk result (stage.new.count ≤ setup.now.limits.exchanges_max) }
     ensures asked { OnOk result (HasAsked (D.grammar dialect.now) stage.new.out) }
@@ -252,11 +275,22 @@ pub(crate) fn go_on<D: Dialect>(
     requires count { stage.old.count ≤ setup.now.limits.exchanges_max }
     requires asked { HasAsked (D.grammar dialect.now) stage.old.out }
     requires out { IsOut (D.grammar dialect.now) setup.now stage.old }
-    ensures stage { IfOk result (λ p. seen_stage stage.new (latest_of own.now p.own) ≡ now_from (rules_of (D.grammar dialect.now) setup.now) stage.old.count stage.old.bye own.now (read_now (rules_of (D.grammar dialect.now) setup.now) stage.old)) }
-    ensures trouble { IfOk result (λ p. p.trouble ≡ trouble_of (rules_of (D.grammar dialect.now) setup.now) (seen_stage stage.new [])) }
-    ensures sends { IfOk result (λ p. p.sends ≡ sends_to (setup.now.limits.copies + 1) (λ link. given_now (rules_of (D.grammar dialect.now) setup.now) link own.now told.now (is_some stage.old.out) (read_now (rules_of (D.grammar dialect.now) setup.now) stage.old))) }
-    ensures rows { IfOk result (λ p. p.rows ≡ flat_map (exchange_rows (rules_of (D.grammar dialect.now) setup.now)) (read_now (rules_of (D.grammar dialect.now) setup.now) stage.old).done) }
-    ensures masked { IfOk result (λ p. p.masked ≡ masked_now setup.now.side (rules_of (D.grammar dialect.now) setup.now) (is_some stage.old.out) (read_now (rules_of (D.grammar dialect.now) setup.now) stage.old)) }
+    ensures stage { IfOk result (λ p. seen_stage stage.new (latest_of own.now p.own)
+        ≡ now_from (rules_of (D.grammar dialect.now)
+        setup.now) stage.old.count stage.old.bye own.now
+        (read_now (rules_of (D.grammar dialect.now) setup.now) stage.old)) }
+    ensures trouble { IfOk result (λ p. p.trouble
+        ≡ trouble_of (rules_of (D.grammar dialect.now) setup.now) (seen_stage stage.new [])) }
+    ensures sends { IfOk result (λ p. p.sends ≡ sends_to (setup.now.limits.copies + 1)
+        (λ link. given_now (rules_of (D.grammar dialect.now) setup.now)
+        link own.now told.now (is_some stage.old.out)
+        (read_now (rules_of (D.grammar dialect.now) setup.now) stage.old))) }
+    ensures rows { IfOk result (λ p. p.rows ≡ flat_map
+        (exchange_rows (rules_of (D.grammar dialect.now) setup.now))
+        (read_now (rules_of (D.grammar dialect.now) setup.now) stage.old).done) }
+    ensures masked { IfOk result (λ p. p.masked ≡ masked_now setup.now.side
+        (rules_of (D.grammar dialect.now) setup.now) (is_some stage.old.out)
+        (read_now (rules_of (D.grammar dialect.now) setup.now) stage.old)) }
     ensures few_masked { IfOk result (λ p. p.masked ≤ 16777216) }
     ensures count { OnOk result (stage.new.count ≤ setup.now.limits.exchanges_max) }
     ensures asked { OnOk result (HasAsked (D.grammar dialect.now) stage.new.out) }

@@ -26,7 +26,8 @@ fn forward<D: Dialect>(
     request: &Request,
 ) -> Result<Bytes, NoMemory>
     requires { IsAsked (D.grammar dialect.now) (seen_request request.now) }
-    ensures { IfOk result (λ b. b ≡ forwarded (rules_of (D.grammar dialect.now) setup.now) link told.now (record { ask = seen_request request.now; own = own.now })) }
+    ensures { IfOk result (λ b. b ≡ forwarded (rules_of (D.grammar dialect.now) setup.now)
+        link told.now (record { ask = seen_request request.now; own = own.now })) }
 {
     let unit = first_bytes(request.units.as_slice());
     match setup.side {
@@ -41,7 +42,8 @@ fn forward<D: Dialect>(
 /// The replies of an exchange as those that asked are given them.
 fn hand_back<'a, D: Dialect>(dialect: &D, setup: &Setup, exchange: &'a DoneExchange) -> &'a [u8]
     requires { IsDone (D.grammar dialect.now) (seen_exchange exchange.now) }
-    ensures { result.now ≡ handed_back (rules_of (D.grammar dialect.now) setup.now) (seen_exchange exchange.now) }
+    ensures { result.now ≡ handed_back (rules_of (D.grammar dialect.now) setup.now)
+        (seen_exchange exchange.now) }
 {
     let reply = first_bytes(exchange.replies.units.as_slice());
     match setup.side {
@@ -62,7 +64,9 @@ fn replies_for<D: Dialect>(
     done: &[DoneExchange],
 ) -> Result<Bytes, NoMemory>
     requires { All (λ x. IsDone (D.grammar dialect.now) (seen_exchange x)) done.now }
-    ensures { IfOk result (λ b. b ≡ flat_map (handed_back (rules_of (D.grammar dialect.now) setup.now)) (map seen_exchange done.now)) }
+    ensures { IfOk result (λ b. b
+        ≡ flat_map (handed_back (rules_of (D.grammar dialect.now) setup.now))
+        (map seen_exchange done.now)) }
 {
     let mut bytes = Bytes::new(alloc);
     for exchange in done {
@@ -83,11 +87,13 @@ fn requests_for<D: Dialect>(
     was_out: bool,
     reading: &Reading,
 ) -> Result<Bytes, NoMemory>
-    requires done { All (λ x. IsDone (D.grammar dialect.now) (seen_exchange x)) reading.now.done.items }
+    requires done { All (λ x. IsDone (D.grammar dialect.now) (seen_exchange x))
+        reading.now.done.items }
     requires out { HasAsked (D.grammar dialect.now) reading.now.out }
     requires rows { rows_are (rules_of (D.grammar dialect.now) setup.now) reading.now.done.items }
     requires lists { lists.now.after ≡ owns_after lists.now.own reading.now.done.items }
-    ensures { IfOk result (λ b. b ≡ flat_map (forwarded (rules_of (D.grammar dialect.now) setup.now) link told.now)
+    ensures { IfOk result (λ b. b
+        ≡ flat_map (forwarded (rules_of (D.grammar dialect.now) setup.now) link told.now)
         (drop (sent_before was_out) (releases (rules_of (D.grammar dialect.now) setup.now) lists.now.own (map seen_exchange reading.now.done.items) (option_map seen_request reading.now.out)))) }
 {
     let mut bytes = Bytes::new(alloc);
@@ -131,11 +137,13 @@ fn bytes_for<D: Dialect>(
     was_out: bool,
     reading: &Reading,
 ) -> Result<Bytes, NoMemory>
-    requires done { All (λ x. IsDone (D.grammar dialect.now) (seen_exchange x)) reading.now.done.items }
+    requires done { All (λ x. IsDone (D.grammar dialect.now) (seen_exchange x))
+        reading.now.done.items }
     requires out { HasAsked (D.grammar dialect.now) reading.now.out }
     requires rows { rows_are (rules_of (D.grammar dialect.now) setup.now) reading.now.done.items }
     requires lists { lists.now.after ≡ owns_after lists.now.own reading.now.done.items }
-    ensures { IfOk result (λ b. b ≡ given_now (rules_of (D.grammar dialect.now) setup.now) link lists.now.own told.now was_out (seen_reading reading.now)) }
+    ensures { IfOk result (λ b. b ≡ given_now (rules_of (D.grammar dialect.now) setup.now)
+        link lists.now.own told.now was_out (seen_reading reading.now)) }
 {
     if asks(setup, link) {
         replies_for(alloc, dialect, setup, reading.done.as_slice())
@@ -166,11 +174,14 @@ pub(crate) fn sends_of<D: Dialect>(
     reading: &Reading,
 ) -> Result<Sends, NoMemory>
     requires few { setup.now.limits.copies ≤ 8 }
-    requires done { All (λ x. IsDone (D.grammar dialect.now) (seen_exchange x)) reading.now.done.items }
+    requires done { All (λ x. IsDone (D.grammar dialect.now) (seen_exchange x))
+        reading.now.done.items }
     requires out { HasAsked (D.grammar dialect.now) reading.now.out }
     requires rows { rows_are (rules_of (D.grammar dialect.now) setup.now) reading.now.done.items }
     requires lists { lists.now.after ≡ owns_after lists.now.own reading.now.done.items }
-    ensures { IfOk result (λ s. s ≡ sends_to (setup.now.limits.copies + 1) (λ link. given_now (rules_of (D.grammar dialect.now) setup.now) link lists.now.own told.now was_out (seen_reading reading.now))) }
+    ensures { IfOk result (λ s. s ≡ sends_to (setup.now.limits.copies + 1)
+        (λ link. given_now (rules_of (D.grammar dialect.now) setup.now)
+        link lists.now.own told.now was_out (seen_reading reading.now))) }
 {
     let mut sends = Sends::new(alloc);
     let links = setup.limits.copies + 1;

@@ -96,14 +96,18 @@ impl<D: Dialect> Session<D> {
     /// How the session has ended. None while it is live.
     pub fn ending(&self) -> Option<Ending>
         ensures seen { result ≡ self.now.ending }
-        ensures ending { (h : List Entry) → IsAt (rules_of (D.grammar self.now.dialect) self.now.setup) self.now h → result ≡ final (rules_of (D.grammar self.now.dialect) self.now.setup) h }
+        ensures ending { (h : List Entry)
+            → IsAt (rules_of (D.grammar self.now.dialect) self.now.setup) self.now h
+            → result ≡ final (rules_of (D.grammar self.now.dialect) self.now.setup) h }
     {
         self.ending
     }
 
     /// How many exchanges are agreed: incoming their replies are, outgoing their calls.
     pub fn exchanges(&self) -> u32
-        ensures { (h : List Entry) → IsAt (rules_of (D.grammar self.now.dialect) self.now.setup) self.now h → result ≡ exchanges (rules_of (D.grammar self.now.dialect) self.now.setup) h }
+        ensures { (h : List Entry) → IsAt (rules_of (D.grammar self.now.dialect) self.now.setup)
+            self.now h → result ≡ exchanges (rules_of (D.grammar self.now.dialect)
+            self.now.setup) h }
     {
         match self.setup.side {
             Side::Incoming => self.stage.count,
@@ -116,14 +120,17 @@ impl<D: Dialect> Session<D> {
 
     /// How many places are masked in agreed exchanges.
     pub fn masked(&self) -> u32
-        ensures { (h : List Entry) → IsAt (rules_of (D.grammar self.now.dialect) self.now.setup) self.now h → result ≡ masked (rules_of (D.grammar self.now.dialect) self.now.setup) h }
+        ensures { (h : List Entry) → IsAt (rules_of (D.grammar self.now.dialect) self.now.setup)
+            self.now h → result ≡ masked (rules_of (D.grammar self.now.dialect) self.now.setup) h }
     {
         self.masked.min(u64::from(u32::MAX)) as u32
     }
 
     /// The rows that the last step learnt; after an ending, those of the step that ended the session.
     pub fn agreed_rows(&self) -> &Rows
-        ensures { (h : List Entry) → IsAt (rules_of (D.grammar self.now.dialect) self.now.setup) self.now h → result.now ≡ agreed_rows (rules_of (D.grammar self.now.dialect) self.now.setup) h }
+        ensures { (h : List Entry) → IsAt (rules_of (D.grammar self.now.dialect) self.now.setup)
+            self.now h → result.now
+            ≡ agreed_rows (rules_of (D.grammar self.now.dialect) self.now.setup) h }
     {
         &self.rows
     }
@@ -140,7 +147,8 @@ impl<D: Dialect> Session<D> {
     /// ending.
     pub fn due(&self) -> Option<(u64, Which)>
         ensures over { is_none result ≡ is_some self.now.ending }
-        ensures due { (h : List Entry) → IsAt (rules_of (D.grammar self.now.dialect) self.now.setup) self.now h
+        ensures due { (h : List Entry) → IsAt (rules_of (D.grammar self.now.dialect) self.now.setup)
+            self.now h
             → IfSome result (λ d. (d.0 ≡ due_moment (rules_of (D.grammar self.now.dialect) self.now.setup) h) × (d.1 ≡ (wait (rules_of (D.grammar self.now.dialect) self.now.setup) h).which)) }
     {
         if self.ending.is_some() {
@@ -155,10 +163,14 @@ impl<D: Dialect> Session<D> {
     pub fn take(&mut self, happening: &Happening, told: &Rows) -> Result<Sends, NoMemory>
         ensures dialect { self.new.dialect ≡ self.old.dialect }
         ensures setup { self.new.setup ≡ self.old.setup }
-        ensures at { OnOk result ((h : List Entry) → is_well_formed self.old.setup.limits.copies (h ++ entry_of happening.now told.now ∷ []) ≡ true
+        ensures at { OnOk result ((h : List Entry)
+            → is_well_formed self.old.setup.limits.copies (h
+            ++ entry_of happening.now told.now ∷ []) ≡ true
             → IsAt (rules_of (D.grammar self.old.dialect) self.old.setup) self.old h
             → IsAt (rules_of (D.grammar self.old.dialect) self.old.setup) self.new (h ++ entry_of happening.now told.now ∷ [])) }
-        ensures sent { IfOk result (λ sends. (h : List Entry) → is_well_formed self.old.setup.limits.copies (h ++ entry_of happening.now told.now ∷ []) ≡ true
+        ensures sent { IfOk result (λ sends. (h : List Entry)
+            → is_well_formed self.old.setup.limits.copies (h
+            ++ entry_of happening.now told.now ∷ []) ≡ true
             → IsAt (rules_of (D.grammar self.old.dialect) self.old.setup) self.old h
             → SendsMore (rules_of (D.grammar self.old.dialect) self.old.setup) h (entry_of happening.now told.now) sends) }
         ensures over { OnOk result (is_some self.old.ending ≡ true → self.new ≡ self.old) }
@@ -176,7 +188,9 @@ impl<D: Dialect> Session<D> {
     /// The words of 16 to 128 bytes that are looked up in the requests which this happening releases, each once, in
     /// the order of their first places, without those that the own rows before their request show; the first 4,096.
     pub fn wanted(&self, happening: &Happening) -> Result<Words, NoMemory>
-        ensures { IfOk result (λ words. (h : List Entry) → is_well_formed self.now.setup.limits.copies (h ++ entry_of happening.now [] ∷ []) ≡ true
+        ensures { IfOk result (λ words. (h : List Entry)
+            → is_well_formed self.now.setup.limits.copies (h ++ entry_of happening.now [] ∷ [])
+            ≡ true
             → IsAt (rules_of (D.grammar self.now.dialect) self.now.setup) self.now h
             → words ≡ wanted (rules_of (D.grammar self.now.dialect) self.now.setup) h (entry_of happening.now [])) }
     {
@@ -214,8 +228,11 @@ impl<D: Dialect> Session<D> {
         requires sized { is_oversized happening.now.what ≡ false }
         ensures dialect { self.new.dialect ≡ self.old.dialect }
         ensures setup { self.new.setup ≡ self.old.setup }
-        ensures steps { IfOk result (λ sends. Steps (rules_of (D.grammar self.old.dialect) self.old.setup) self.old.at (entry_of happening.now told.now) self.new.at self.new.ending sends) }
-        ensures counts { OnOk result (Counts (rules_of (D.grammar self.old.dialect) self.old.setup) self.old.at.stage (entry_of happening.now told.now) self.old.tally self.new.tally) }
+        ensures steps { IfOk result (λ sends. Steps
+            (rules_of (D.grammar self.old.dialect) self.old.setup) self.old.at
+            (entry_of happening.now told.now) self.new.at self.new.ending sends) }
+        ensures counts { OnOk result (Counts (rules_of (D.grammar self.old.dialect) self.old.setup)
+            self.old.at.stage (entry_of happening.now told.now) self.old.tally self.new.tally) }
         ensures err { OnErr result (self.new ≡ self.old) }
     {
         let Move {

@@ -47,11 +47,19 @@ pub(crate) fn take_step<D: Dialect>(
 ) -> Result<Move, NoMemory>
     requires kept { IsKept (D.grammar dialect.now) setup.now stage.old clock.entries masked None }
     requires sized { is_oversized happening.now.what ≡ false }
-    ensures steps { IfOk result (λ m. Steps (rules_of (D.grammar dialect.now) setup.now) (standing stage.old own.now clock) (entry_of happening.now told.now) (standing stage.new (latest_of own.now m.own) m.clock) m.ending m.sends) }
-    ensures counts { IfOk result (λ m. (rows : List Row) → Counts (rules_of (D.grammar dialect.now) setup.now) (seen_stage stage.old own.now) (entry_of happening.now told.now) (record { masked = masked; rows = rows }) (record { masked = m.masked; rows = m.rows })) }
-    ensures kept { IfOk result (λ m. IsKept (D.grammar dialect.now) setup.now stage.new m.clock.entries m.masked m.ending) }
-    ensures kept_err { OnErr result (IsKept (D.grammar dialect.now) setup.now stage.new clock.entries masked None) }
-    ensures err { OnErr result ((rows : List Row) → seen_stage stage.new rows ≡ seen_stage stage.old rows) }
+    ensures steps { IfOk result (λ m. Steps (rules_of (D.grammar dialect.now) setup.now)
+        (standing stage.old own.now clock) (entry_of happening.now told.now)
+        (standing stage.new (latest_of own.now m.own) m.clock) m.ending m.sends) }
+    ensures counts { IfOk result (λ m. (rows : List Row)
+        → Counts (rules_of (D.grammar dialect.now) setup.now) (seen_stage stage.old own.now)
+        (entry_of happening.now told.now) (record { masked = masked; rows = rows })
+        (record { masked = m.masked; rows = m.rows })) }
+    ensures kept { IfOk result (λ m. IsKept (D.grammar dialect.now)
+        setup.now stage.new m.clock.entries m.masked m.ending) }
+    ensures kept_err { OnErr result (IsKept (D.grammar dialect.now)
+        setup.now stage.new clock.entries masked None) }
+    ensures err { OnErr result ((rows : List Row)
+        → seen_stage stage.new rows ≡ seen_stage stage.old rows) }
 {
     let what = &happening.what;
     let before = awaited(setup.side, stage);
@@ -115,7 +123,9 @@ fn ending_of(
     clock: Clock,
     trouble: Option<Ending>,
 ) -> Option<Ending>
-    ensures { result ≡ or_else (or_else (fault_by setup.now.limits.copies what.now) (late_at setup.now.side setup.now.limits (is_timer what.now) (standing stage.now [] clock))) (or_else trouble (full_log_at clock.entries)) }
+    ensures { result ≡ or_else (or_else (fault_by setup.now.limits.copies what.now)
+        (late_at setup.now.side setup.now.limits (is_timer what.now) (standing stage.now [] clock)))
+        (or_else trouble (full_log_at clock.entries)) }
 {
     let first = or_else(fault(&setup.limits, what), late(setup, what, stage, clock));
     or_else(first, or_else(trouble, full_log(clock.entries)))

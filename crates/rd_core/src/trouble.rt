@@ -359,7 +359,8 @@ pub(crate) fn trouble_of<D: Dialect>(
     requires count { stage.now.count ≤ 65536 }
     requires due { due ≡ rule.due_of (D.grammar dialect.now) (seen_stage stage.now []) }
     requires looks { looks.now ≡ looks_at (D.grammar dialect.now) stage.now }
-    ensures { IfOk result (λ e. e ≡ rule.trouble_of (rules_of (D.grammar dialect.now) setup.now) (seen_stage stage.now [])) }
+    ensures { IfOk result (λ e. e ≡ rule.trouble_of (rules_of (D.grammar dialect.now) setup.now)
+        (seen_stage stage.now [])) }
 {
     let links = due_links(stage);
     let scans = scan_trouble(alloc, setup, stage, looks)?;

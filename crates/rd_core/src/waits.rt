@@ -79,7 +79,8 @@ pub(crate) fn clock_after(
     requires { clock.entries < 1048576 }
     ensures entries { result.entries ≡ clock.entries + 1 }
     ensures moment { result.moment ≡ max clock.moment at }
-    ensures began { result.began ≡ began_since (awaited_wait before) (wait_at side (seen_stage now.now [])) clock.began (max clock.moment at) }
+    ensures began { result.began ≡ began_since (awaited_wait before)
+        (wait_at side (seen_stage now.now [])) clock.began (max clock.moment at) }
 {
     let moment = clock.moment.max(at);
     let began = if waits_on(side, before, now) {
@@ -121,7 +122,8 @@ fn is_look(what: &What) -> bool
 
 /// Late, where a look at the clock comes at or past the moment that is due.
 pub(crate) fn late(setup: &Setup, what: &What, stage: &Stage, clock: Clock) -> Option<Ending>
-    ensures { result ≡ late_at setup.now.side setup.now.limits (is_timer what.now) (standing stage.now [] clock) }
+    ensures { result ≡ late_at setup.now.side setup.now.limits (is_timer what.now)
+        (standing stage.now [] clock) }
 {
     if is_look(what) && due_at(setup, stage, clock) <= clock.moment {
         Some(Ending::Late {

@@ -50,7 +50,9 @@ fn push_new(words: &mut Words, word: &[u8]) -> Result<(), NoMemory>
 /// Adds a word of 16 to 128 bytes that none of the own rows shows.
 fn push_unknown(words: &mut Words, own: &Rows, word: &[u8]) -> Result<(), NoMemory>
     requires { length words.old ≤ 4096 }
-    ensures { OnOk result (words.new ≡ take 4096 (fold add_word words.old (filter (λ w. is_row_word w && is_unknown own.now w) (word.now ∷ [])))) }
+    ensures { OnOk result (words.new ≡ take 4096
+        (fold add_word words.old (filter (λ w. is_row_word w && is_unknown own.now w)
+        (word.now ∷ [])))) }
 {
     if !is_row_word(word) {
         return Ok(());
@@ -64,7 +66,8 @@ fn push_unknown(words: &mut Words, own: &Rows, word: &[u8]) -> Result<(), NoMemo
 /// Adds those of these words that are of 16 to 128 bytes and that none of the own rows shows.
 fn push_all(words: &mut Words, own: &Rows, asked: &Words) -> Result<(), NoMemory>
     requires { length words.old ≤ 4096 }
-    ensures { OnOk result (words.new ≡ take 4096 (fold add_word words.old (filter (λ w. is_row_word w && is_unknown own.now w) asked.now))) }
+    ensures { OnOk result (words.new ≡ take 4096
+        (fold add_word words.old (filter (λ w. is_row_word w && is_unknown own.now w) asked.now))) }
 {
     for place in 0..asked.len() {
         push_unknown(words, own, asked.at(place))?;
@@ -83,7 +86,9 @@ fn push_asked<D: Dialect>(
 ) -> Result<(), NoMemory>
     requires most { length words.old ≤ 4096 }
     requires asked { IsAsked (D.grammar dialect.now) (seen_request request.now) }
-    ensures { OnOk result (words.new ≡ take 4096 (fold add_word words.old (unknown_words (rules_of (D.grammar dialect.now) setup.now) (record { ask = seen_request request.now; own = own.now })))) }
+    ensures { OnOk result (words.new ≡ take 4096
+        (fold add_word words.old (unknown_words (rules_of (D.grammar dialect.now) setup.now)
+        (record { ask = seen_request request.now; own = own.now })))) }
 {
     let note = note_of(dialect, request);
     let unit = first_bytes(request.units.as_slice());
@@ -103,7 +108,13 @@ fn push_fresh<D: Dialect>(
 ) -> Result<(), NoMemory>
     requires most { length words.old ≤ 4096 }
     requires asked { IsAsked (D.grammar dialect.now) (seen_request request.now) }
-    ensures { OnOk result (words.new ≡ take 4096 (fold add_word words.old (flat_map (unknown_words (rules_of (D.grammar dialect.now) setup.now)) (drop (sent_before skips) (record { ask = seen_request request.now; own = own.now } ∷ []))))) }
+    ensures { OnOk result (words.new ≡ take 4096
+        (fold add_word words.old (flat_map (unknown_words
+        (rules_of (D.grammar dialect.now) setup.now))
+        (drop (sent_before skips) (record {
+          ask = seen_request request.now;
+          own = own.now;
+        } ∷ []))))) }
 {
     if skips {
         return Ok(());
@@ -120,10 +131,12 @@ fn words_in<D: Dialect>(
     was_out: bool,
     reading: &Reading,
 ) -> Result<Words, NoMemory>
-    requires done { All (λ x. IsDone (D.grammar dialect.now) (seen_exchange x)) reading.now.done.items }
+    requires done { All (λ x. IsDone (D.grammar dialect.now) (seen_exchange x))
+        reading.now.done.items }
     requires out { HasAsked (D.grammar dialect.now) reading.now.out }
     requires rows { rows_are (rules_of (D.grammar dialect.now) setup.now) reading.now.done.items }
-    ensures { IfOk result (λ words. words ≡ words_read (rules_of (D.grammar dialect.now) setup.now) own.now was_out (seen_reading reading.now)) }
+    ensures { IfOk result (λ words. words ≡ words_read (rules_of (D.grammar dialect.now) setup.now)
+        own.now was_out (seen_reading reading.now)) }
 {
     let mut words = Words::new(alloc);
     let mut later = None;
@@ -154,7 +167,8 @@ pub(crate) fn words_next<D: Dialect>(
 ) -> Result<Words, NoMemory>
     requires limits { AreLimits setup.now.limits }
     requires count { stage.now.count ≤ setup.now.limits.exchanges_max }
-    ensures { IfOk result (λ words. words ≡ words_read (rules_of (D.grammar dialect.now) setup.now) own.now (is_some stage.now.out)
+    ensures { IfOk result (λ words. words ≡ words_read (rules_of (D.grammar dialect.now) setup.now)
+        own.now (is_some stage.now.out)
         (rule.read (D.grammar dialect.now) setup.now.limits.mask (setup.now.limits.exchanges_max - stage.now.count) (seen_front front.now))) }
 {
     let spare = setup.limits.exchanges_max - stage.count;

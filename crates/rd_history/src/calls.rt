@@ -108,7 +108,8 @@ impl Calls {
     /// Appends what is told, and says whether it did. It does, since nobody else has the length.
     fn append<X, M: Plain<X, Call, u64>>(&mut self, told: &X) -> bool
         requires { M.state told.now ≡ None }
-        ensures { MatchBool result (self.new ≡ self.old ++ call_of (M.ask told.now) ∷ []) (self.new ≡ self.old) }
+        ensures { MatchBool result (self.new ≡ self.old ++ call_of (M.ask told.now) ∷ [])
+            (self.new ≡ self.old) }
     {
         let mut offer: Offer<Call, u64, Growing, Nothing> = self.seen.plain::<Nothing, X, M>(told);
         let mut pen = self.seen.no_pen();

@@ -146,7 +146,9 @@ impl<J: Naming> Learns<J> {
     /// nothing has changed.
     pub fn append(&mut self, shared: &Length<J>, learnt: &Learnt<'_>) -> bool
         requires { length self.old < 2 ^ 62 }
-        ensures { MatchBool result (self.new ≡ self.old ++ entry learnt.now.seat learnt.now.number learnt.now.row.now ∷ []) (self.new ≡ self.old) }
+        ensures { MatchBool result (self.new ≡ self.old
+            ++ entry learnt.now.seat learnt.now.number learnt.now.row.now ∷ [])
+            (self.new ≡ self.old) }
     {
         let mut offer: Offer<Learn, u64, Growing, Nothing> = self
             .seen

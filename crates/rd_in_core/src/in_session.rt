@@ -57,13 +57,17 @@ impl<D: Dialect> InSession<D> {
     pub fn take(&mut self, happening: &Happening, told: &Rows) -> Result<Sends, NoMemory>
         ensures dialect { self.new.dialect ≡ self.old.dialect }
         ensures limits { self.new.limits ≡ self.old.limits }
-        ensures at { OnOk result ((h : History) → is_well_formed self.old.limits.copies (h ++ entry_of happening.now told.now ∷ []) ≡ true
+        ensures at { OnOk result ((h : History) → is_well_formed self.old.limits.copies (h
+            ++ entry_of happening.now told.now ∷ []) ≡ true
             → IsAt (session_rules (D.grammar self.old.dialect) self.old) self.old h
             → IsAt (session_rules (D.grammar self.old.dialect) self.old) self.new (h ++ entry_of happening.now told.now ∷ [])) }
-        ensures sends { IfOk result (λ sends. (h : History) → is_well_formed self.old.limits.copies (h ++ entry_of happening.now told.now ∷ []) ≡ true
+        ensures sends { IfOk result (λ sends. (h : History)
+            → is_well_formed self.old.limits.copies (h ++ entry_of happening.now told.now ∷ [])
+            ≡ true
             → IsAt (session_rules (D.grammar self.old.dialect) self.old) self.old h
             → sends ≡ step_sends (session_rules (D.grammar self.old.dialect) self.old) h (h ++ entry_of happening.now told.now ∷ [])) }
-        ensures adds { OnOk result ((h : History) → is_well_formed self.old.limits.copies (h ++ entry_of happening.now told.now ∷ []) ≡ true
+        ensures adds { OnOk result ((h : History) → is_well_formed self.old.limits.copies (h
+            ++ entry_of happening.now told.now ∷ []) ≡ true
             → IsAt (session_rules (D.grammar self.old.dialect) self.old) self.old h
             → (l : ℕ) → sent (session_rules (D.grammar self.old.dialect) self.old) l (h ++ entry_of happening.now told.now ∷ [])
             ≡ sent (session_rules (D.grammar self.old.dialect) self.old) l h ++ sent_past (session_rules (D.grammar self.old.dialect) self.old) h (h ++ entry_of happening.now told.now ∷ []) l) }
@@ -76,21 +80,25 @@ impl<D: Dialect> InSession<D> {
     /// How the session has ended. None while it is live.
     pub fn ending(&self) -> Option<Ending>
         ensures seen { result ≡ self.now.ending }
-        ensures ending { (h : History) → IsAt (session_rules (D.grammar self.now.dialect) self.now) self.now h → result ≡ final (session_rules (D.grammar self.now.dialect) self.now) h }
+        ensures ending { (h : History) → IsAt (session_rules (D.grammar self.now.dialect) self.now)
+            self.now h → result ≡ final (session_rules (D.grammar self.now.dialect) self.now) h }
     {
         self.session.ending()
     }
 
     /// How many exchanges are agreed.
     pub fn exchanges(&self) -> u32
-        ensures { (h : History) → IsAt (session_rules (D.grammar self.now.dialect) self.now) self.now h → result ≡ exchanges (session_rules (D.grammar self.now.dialect) self.now) h }
+        ensures { (h : History) → IsAt (session_rules (D.grammar self.now.dialect) self.now)
+            self.now h → result ≡ exchanges (session_rules (D.grammar self.now.dialect)
+            self.now) h }
     {
         self.session.exchanges()
     }
 
     /// How many places are masked in the replies of agreed exchanges.
     pub fn masked(&self) -> u32
-        ensures { (h : History) → IsAt (session_rules (D.grammar self.now.dialect) self.now) self.now h → result ≡ masked (session_rules (D.grammar self.now.dialect) self.now) h }
+        ensures { (h : History) → IsAt (session_rules (D.grammar self.now.dialect) self.now)
+            self.now h → result ≡ masked (session_rules (D.grammar self.now.dialect) self.now) h }
     {
         self.session.masked()
     }
@@ -98,7 +106,9 @@ impl<D: Dialect> InSession<D> {
     /// The rows that the last step learnt. A step whose reply an unsolicited byte withholds learns none. After an
     /// ending they are those of the step that ended the session.
     pub fn agreed_rows(&self) -> &Rows
-        ensures { (h : History) → IsAt (session_rules (D.grammar self.now.dialect) self.now) self.now h → result.now ≡ agreed_rows (session_rules (D.grammar self.now.dialect) self.now) h }
+        ensures { (h : History) → IsAt (session_rules (D.grammar self.now.dialect) self.now)
+            self.now h → result.now
+            ≡ agreed_rows (session_rules (D.grammar self.now.dialect) self.now) h }
     {
         self.session.agreed_rows()
     }
@@ -107,7 +117,8 @@ impl<D: Dialect> InSession<D> {
     /// the order of their first places, but those that the own rows show as they stand before the word's request;
     /// the first 4,096. None where the happening releases nothing. It may be asked of before the step itself.
     pub fn wanted(&self, happening: &Happening) -> Result<Words, NoMemory>
-        ensures { IfOk result (λ words. (h : History) → is_well_formed self.now.limits.copies (h ++ entry_of happening.now [] ∷ []) ≡ true
+        ensures { IfOk result (λ words. (h : History)
+            → is_well_formed self.now.limits.copies (h ++ entry_of happening.now [] ∷ []) ≡ true
             → IsAt (session_rules (D.grammar self.now.dialect) self.now) self.now h
             → words ≡ wanted (session_rules (D.grammar self.now.dialect) self.now) h (entry_of happening.now [])) }
     {
@@ -125,7 +136,8 @@ impl<D: Dialect> InSession<D> {
     /// after an ending.
     pub fn due(&self) -> Option<(u64, Which)>
         ensures over { is_none result ≡ is_some self.now.ending }
-        ensures due { (h : History) → IsAt (session_rules (D.grammar self.now.dialect) self.now) self.now h
+        ensures due { (h : History) → IsAt (session_rules (D.grammar self.now.dialect) self.now)
+            self.now h
             → IfSome result (λ d. (d.0 ≡ due_moment (session_rules (D.grammar self.now.dialect) self.now) h) × (d.1 ≡ (wait (session_rules (D.grammar self.now.dialect) self.now) h).which)) }
     {
         self.session.due()

@@ -53,7 +53,8 @@ pub trait Keeper: Drop {
 
     /// The notes from this id on, by rising id, and no more than `count`.
     fn page(&mut self, from: u64, count: u16) -> Result<Notes, KeepFail>
-        ensures found { Answers result (λ notes. take count (notes_from from notes)) (tells self.old) }
+        ensures found { Answers result (λ notes. take count (notes_from from notes))
+            (tells self.old) }
         ensures notes { (tells self.new).notes ≡ (tells self.old).notes }
         ensures cause { HasCause result (tells self.old) (tells self.new) };
 

@@ -124,7 +124,8 @@ fn is_id_at(notes: &[SessionNote], place: usize, id: u64) -> bool
 
 /// The note that stands there, where it has this id.
 fn note_at(notes: &[SessionNote], place: usize, id: u64) -> Option<SessionNote>
-    ensures { result ≡ (if is_id_in id (slice_get notes.now place) then slice_get notes.now place else None) }
+    ensures { result ≡ (if is_id_in id (slice_get notes.now place)
+        then slice_get notes.now place else None) }
 {
     match notes.get(place) {
         Some(note) if note.id == id => Some(*note),

@@ -57,7 +57,8 @@ fn totals_reply(alloc: Global, view: &Board) -> Result<Reply, NoMemory>
 
 /// A page of the notes from an id on.
 fn notes_reply<Y: Keeper>(alloc: Global, from: u64, keeper: &mut Y) -> Result<Reply, NoMemory>
-    ensures reply { IfOk result (λ r. ByKeeper notes_reply (λ notes. take 100 (notes_from from notes))
+    ensures reply { IfOk result (λ r. ByKeeper notes_reply (λ notes.
+        take 100 (notes_from from notes))
         r (Y.tells keeper.old) (Y.tells keeper.new)) }
     ensures stays { StaysKept (Y.tells keeper.old) (Y.tells keeper.new) }
 {

@@ -56,13 +56,16 @@ impl<D: Dialect> OutSession<D> {
     pub fn take(&mut self, happening: &Happening) -> Result<Sends, NoMemory>
         ensures dialect { self.new.dialect ≡ self.old.dialect }
         ensures limits { self.new.limits ≡ self.old.limits }
-        ensures at { OnOk result ((h : History) → is_well_formed self.old.limits.copies (h ++ entry_of happening.now [] ∷ []) ≡ true
+        ensures at { OnOk result ((h : History) → is_well_formed self.old.limits.copies (h
+            ++ entry_of happening.now [] ∷ []) ≡ true
             → IsAt (session_rules (D.grammar self.old.dialect) self.old) self.old h
             → IsAt (session_rules (D.grammar self.old.dialect) self.old) self.new (h ++ entry_of happening.now [] ∷ [])) }
-        ensures sends { IfOk result (λ sends. (h : History) → is_well_formed self.old.limits.copies (h ++ entry_of happening.now [] ∷ []) ≡ true
+        ensures sends { IfOk result (λ sends. (h : History)
+            → is_well_formed self.old.limits.copies (h ++ entry_of happening.now [] ∷ []) ≡ true
             → IsAt (session_rules (D.grammar self.old.dialect) self.old) self.old h
             → sends ≡ step_sends (session_rules (D.grammar self.old.dialect) self.old) h (h ++ entry_of happening.now [] ∷ [])) }
-        ensures adds { OnOk result ((h : History) → is_well_formed self.old.limits.copies (h ++ entry_of happening.now [] ∷ []) ≡ true
+        ensures adds { OnOk result ((h : History) → is_well_formed self.old.limits.copies (h
+            ++ entry_of happening.now [] ∷ []) ≡ true
             → IsAt (session_rules (D.grammar self.old.dialect) self.old) self.old h
             → (l : ℕ) → sent (session_rules (D.grammar self.old.dialect) self.old) l (h ++ entry_of happening.now [] ∷ [])
             ≡ sent (session_rules (D.grammar self.old.dialect) self.old) l h ++ sent_past (session_rules (D.grammar self.old.dialect) self.old) h (h ++ entry_of happening.now [] ∷ []) l) }
@@ -76,21 +79,25 @@ impl<D: Dialect> OutSession<D> {
     /// How the session has ended. None while it is live.
     pub fn ending(&self) -> Option<Ending>
         ensures seen { result ≡ self.now.ending }
-        ensures ending { (h : History) → IsAt (session_rules (D.grammar self.now.dialect) self.now) self.now h → result ≡ final (session_rules (D.grammar self.now.dialect) self.now) h }
+        ensures ending { (h : History) → IsAt (session_rules (D.grammar self.now.dialect) self.now)
+            self.now h → result ≡ final (session_rules (D.grammar self.now.dialect) self.now) h }
     {
         self.session.ending()
     }
 
     /// How many calls are agreed: those that are answered, and the one that is out.
     pub fn exchanges(&self) -> u32
-        ensures { (h : History) → IsAt (session_rules (D.grammar self.now.dialect) self.now) self.now h → result ≡ exchanges (session_rules (D.grammar self.now.dialect) self.now) h }
+        ensures { (h : History) → IsAt (session_rules (D.grammar self.now.dialect) self.now)
+            self.now h → result ≡ exchanges (session_rules (D.grammar self.now.dialect)
+            self.now) h }
     {
         self.session.exchanges()
     }
 
     /// How many places are masked in agreed calls.
     pub fn masked(&self) -> u32
-        ensures { (h : History) → IsAt (session_rules (D.grammar self.now.dialect) self.now) self.now h → result ≡ masked (session_rules (D.grammar self.now.dialect) self.now) h }
+        ensures { (h : History) → IsAt (session_rules (D.grammar self.now.dialect) self.now)
+            self.now h → result ≡ masked (session_rules (D.grammar self.now.dialect) self.now) h }
     {
         self.session.masked()
     }
@@ -107,7 +114,8 @@ impl<D: Dialect> OutSession<D> {
     /// after an ending.
     pub fn due(&self) -> Option<(u64, Which)>
         ensures over { is_none result ≡ is_some self.now.ending }
-        ensures due { (h : History) → IsAt (session_rules (D.grammar self.now.dialect) self.now) self.now h
+        ensures due { (h : History) → IsAt (session_rules (D.grammar self.now.dialect) self.now)
+            self.now h
             → IfSome result (λ d. (d.0 ≡ due_moment (session_rules (D.grammar self.now.dialect) self.now) h) × (d.1 ≡ (wait (session_rules (D.grammar self.now.dialect) self.now) h).which)) }
     {
         self.session.due()

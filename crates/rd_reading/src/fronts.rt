@@ -126,7 +126,8 @@ fn are_in_front<D: Dialect>(dialect: &D, due: Due, whole: bool, top: &[u8], open
 }
 
 fn is_in_front<D: Dialect>(dialect: &D, due: Due, whole: bool, top: &[u8], one: &Open) -> bool
-    ensures { result ≡ in_front whole top.now (rule.scan_open (D.grammar dialect.now) due one.now) one.now.bytes }
+    ensures { result ≡ in_front whole top.now (rule.scan_open (D.grammar dialect.now) due one.now)
+        one.now.bytes }
 {
     let bytes = one.bytes();
     match scan_open(dialect, due, one) {

@@ -66,7 +66,8 @@ fn grow_all(opens: &mut Vec<Open>, extents: &[Extent], what: &What) -> Result<()
 /// Hears a happening on each of these links that it is of. It answers the extents before it.
 fn grow_links(links: &mut Links, what: &What) -> Result<ArrayVec<Extent, 8>, NoMemory>
     requires { All (HasRoom what.now) links.old.opens.items }
-    ensures ok { OnOk result (links.new.opens.items ≡ map (grow_by what.now) links.old.opens.items) }
+    ensures ok { OnOk result (links.new.opens.items
+        ≡ map (grow_by what.now) links.old.opens.items) }
     ensures extents { IfOk result (λ e. e.items ≡ map extent_of links.old.opens.items) }
     ensures err { OnErr result (links.new.opens.items ≡ links.old.opens.items) }
 {
@@ -89,9 +90,11 @@ fn cut_links_back(links: &mut Links, extents: &[Extent])
 pub fn grow_front(front: &mut Front, what: &What) -> Result<Extents, NoMemory>
     requires asking { All (HasRoom what.now) front.old.asking.opens.items }
     requires answering { All (HasRoom what.now) front.old.answering.opens.items }
-    ensures ok { OnOk result (seen_front front.new ≡ grow_front_by what.now (seen_front front.old)) }
+    ensures ok { OnOk result (seen_front front.new
+        ≡ grow_front_by what.now (seen_front front.old)) }
     ensures asked { IfOk result (λ e. e.asking.items ≡ map extent_of front.old.asking.opens.items) }
-    ensures answered { IfOk result (λ e. e.answering.items ≡ map extent_of front.old.answering.opens.items) }
+    ensures answered { IfOk result (λ e. e.answering.items
+        ≡ map extent_of front.old.answering.opens.items) }
     ensures err { OnErr result (seen_front front.new ≡ seen_front front.old) }
 {
     let asking = grow_links(&mut front.asking, what)?;
@@ -107,10 +110,13 @@ pub fn grow_front(front: &mut Front, what: &What) -> Result<Extents, NoMemory>
 /// Undoes what was heard since these were the extents.
 pub fn cut_front_back(front: &mut Front, extents: &Extents)
     requires asking { length extents.now.asking.items ≡ length front.old.asking.opens.items }
-    requires answering { length extents.now.answering.items ≡ length front.old.answering.opens.items }
+    requires answering { length extents.now.answering.items
+        ≡ length front.old.answering.opens.items }
     ensures phase { front.new.phase ≡ front.old.phase }
-    ensures asking { front.new.asking.opens.items ≡ all_cut_back extents.now.asking.items front.old.asking.opens.items }
-    ensures answering { front.new.answering.opens.items ≡ all_cut_back extents.now.answering.items front.old.answering.opens.items }
+    ensures asking { front.new.asking.opens.items
+        ≡ all_cut_back extents.now.asking.items front.old.asking.opens.items }
+    ensures answering { front.new.answering.opens.items
+        ≡ all_cut_back extents.now.answering.items front.old.answering.opens.items }
 {
     cut_links_back(&mut front.asking, extents.asking.as_slice());
     cut_links_back(&mut front.answering, extents.answering.as_slice());

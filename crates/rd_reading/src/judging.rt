@@ -32,7 +32,8 @@ fn spans_of<D: Dialect>(
     whole: bool,
 ) -> Result<Spans, NoMemory>
     requires { length flat.now ≤ flat_room }
-    ensures tokens { IfOk result (λ spans. map (token_of flat.now) spans ≡ left_due (D.grammar dialect.now) due flat.now whole) }
+    ensures tokens { IfOk result (λ spans. map (token_of flat.now) spans
+        ≡ left_due (D.grammar dialect.now) due flat.now whole) }
     ensures within { IfOk result (λ spans. All (LiesIn (length flat.now)) spans) }
     ensures count { IfOk result (λ spans. length spans < 2 ^ 32) }
 {
@@ -59,8 +60,10 @@ fn push_tokens<D: Dialect>(
     requires stands { IsDue (D.grammar dialect.now) due bytes.now whole }
     requires room { length bytes.now ≤ room }
     requires few { length copies.old < 8 }
-    ensures copies { OnOk result (copies.new ≡ copies.old ++ tokens_due (D.grammar dialect.now) due bytes.now whole ∷ []) }
-    ensures count { IfOk result (λ n. n ≡ length (tokens_due (D.grammar dialect.now) due bytes.now whole)) }
+    ensures copies { OnOk result (copies.new ≡ copies.old
+        ++ tokens_due (D.grammar dialect.now) due bytes.now whole ∷ []) }
+    ensures count { IfOk result (λ n. n ≡ length
+        (tokens_due (D.grammar dialect.now) due bytes.now whole)) }
 {
     let mut flat = Bytes::new(alloc);
     dialect.flat_into(due.part, due.phase, due.note, bytes, whole, &mut flat)?;
@@ -98,8 +101,10 @@ pub(crate) fn whole_units<D: Dialect>(
     opens: &[Open],
 ) -> Result<Option<WholeUnits>, NoMemory>
     requires { length opens.now ≤ 8 }
-    ensures units { IfOk result (λ found. option_map (λ w. w.units.items) found ≡ rule.units (D.grammar dialect.now) due opens.now) }
-    ensures copies { IfOk result (λ found. IfSome found (λ w. AreJudged (rule.token_lists (D.grammar dialect.now) due w.units.items) w.copies)) }
+    ensures units { IfOk result (λ found. option_map (λ w. w.units.items) found
+        ≡ rule.units (D.grammar dialect.now) due opens.now) }
+    ensures copies { IfOk result (λ found. IfSome found (λ w.
+        AreJudged (rule.token_lists (D.grammar dialect.now) due w.units.items) w.copies)) }
 {
     if !are_whole(dialect, due, opens) {
         return Ok(None);
@@ -128,7 +133,8 @@ fn copies_of<D: Dialect>(
     requires few { length units.now ≤ 8 }
     requires stand { All (λ u. IsDue (D.grammar dialect.now) due u.bytes true) units.now }
     requires room { All (λ u. length u.bytes ≤ room) units.now }
-    ensures { IfOk result (λ copies. AreJudged (rule.token_lists (D.grammar dialect.now) due units.now) copies) }
+    ensures { IfOk result (λ copies.
+        AreJudged (rule.token_lists (D.grammar dialect.now) due units.now) copies) }
 {
     if are_equal(units) {
         return Ok(None);
@@ -155,7 +161,8 @@ fn cut_units<D: Dialect>(
     requires few { length units.now ≤ 8 }
     requires stand { All (λ u. IsDue (D.grammar dialect.now) due u.bytes true) units.now }
     requires room { All (λ u. length u.bytes ≤ room) units.now }
-    ensures { IfOk result (λ copies. copies ≡ rule.token_lists (D.grammar dialect.now) due units.now) }
+    ensures { IfOk result (λ copies. copies ≡ rule.token_lists (D.grammar dialect.now)
+        due units.now) }
 {
     let mut copies = Copies::new(alloc);
     for unit in units {
@@ -202,8 +209,10 @@ pub(crate) fn rows_learnt(
     mask: &Mask,
 ) -> Result<Rows, NoMemory>
     requires limits { AreMaskLimits most }
-    requires agreed { IfSome copies.now (λ lists. (rule.agree most lists ≡ true) × (mask.now ≡ agreed_mask most lists)) }
-    ensures { IfOk result (λ rows. (lists : List (List Token)) → AreJudged lists copies.now → rows ≡ learnt_rows learns most lists) }
+    requires agreed { IfSome copies.now (λ lists. (rule.agree most lists ≡ true)
+        × (mask.now ≡ agreed_mask most lists)) }
+    ensures { IfOk result (λ rows. (lists : List (List Token)) → AreJudged lists copies.now
+        → rows ≡ learnt_rows learns most lists) }
 {
     match copies {
         Some(copies) => rows_of_copies(alloc, learns, most, copies, mask),
@@ -247,7 +256,8 @@ fn hear_open<D: Dialect>(
     copies: &mut Copies,
 ) -> Result<Option<usize>, NoMemory>
     requires { length copies.old < 8 }
-    ensures copies { OnOk result (copies.new ≡ copies.old ++ (heard (D.grammar dialect.now) due one.now).tokens ∷ []) }
+    ensures copies { OnOk result (copies.new ≡ copies.old
+        ++ (heard (D.grammar dialect.now) due one.now).tokens ∷ []) }
     ensures count { IfOk result (λ part. MatchOption part
         ((heard (D.grammar dialect.now) due one.now).is_whole ≡ true)
         (λ n. ((heard (D.grammar dialect.now) due one.now).is_whole ≡ false) × (n ≡ length (heard (D.grammar dialect.now) due one.now).tokens))) }
@@ -276,8 +286,10 @@ pub(crate) fn hear<D: Dialect>(
     opens: &[Open],
 ) -> Result<EarlyCopies, NoMemory>
     requires { length opens.now ≤ 8 }
-    ensures copies { IfOk result (λ e. e.copies ≡ lists_of (map (heard (D.grammar dialect.now) due) opens.now)) }
-    ensures shortest { IfOk result (λ e. e.shortest ≡ judged_of (2 ^ 64 - 1) (map (heard (D.grammar dialect.now) due) opens.now)) }
+    ensures copies { IfOk result (λ e. e.copies ≡ lists_of
+        (map (heard (D.grammar dialect.now) due) opens.now)) }
+    ensures shortest { IfOk result (λ e. e.shortest
+        ≡ judged_of (2 ^ 64 - 1) (map (heard (D.grammar dialect.now) due) opens.now)) }
 {
     let mut copies = Copies::new(alloc);
     let mut shortest = usize::MAX;
@@ -301,7 +313,8 @@ pub fn early_fault<D: Dialect>(
 ) -> Result<Option<Ending>, NoMemory>
     requires limits { AreMaskLimits most }
     requires looks { looks.now ≡ map (look_of (D.grammar dialect.now) due) links.now.opens.items }
-    ensures { IfOk result (λ e. e ≡ judge_by most exchange (map (heard (D.grammar dialect.now) due) links.now.opens.items)) }
+    ensures { IfOk result (λ e. e ≡ judge_by most exchange
+        (map (heard (D.grammar dialect.now) due) links.now.opens.items)) }
 {
     if have_fronts(dialect, due, links, looks) {
         return Ok(None);
@@ -312,7 +325,8 @@ pub fn early_fault<D: Dialect>(
 
 fn fault_of(most: MaskLimits, exchange: u32, early: EarlyCopies) -> Option<Ending>
     requires { AreMaskLimits most }
-    ensures { (heards : List Heard) → early.copies ≡ lists_of heards → early.shortest ≡ judged_of (2 ^ 64 - 1) heards → result ≡ judge_by most exchange heards }
+    ensures { (heards : List Heard) → early.copies ≡ lists_of heards
+        → early.shortest ≡ judged_of (2 ^ 64 - 1) heards → result ≡ judge_by most exchange heards }
 {
     let EarlyCopies {
         mut copies,

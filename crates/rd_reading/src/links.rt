@@ -85,8 +85,10 @@ fn longest_before<'a>(opens: &'a [Open], extents: &[Extent]) -> &'a [u8]
 
 /// Whether bytes, of which the first are the front of a list, and that list are still fronts of one list.
 fn go_on_alike(bytes: &[u8], from: usize, top: &[u8]) -> bool
-    ensures bytes { result ≡ true → IsFrontOf (take from bytes.now) top.now → IsFrontOf bytes.now (longer top.now bytes.now) }
-    ensures top { result ≡ true → IsFrontOf (take from bytes.now) top.now → IsFrontOf top.now (longer top.now bytes.now) }
+    ensures bytes { result ≡ true → IsFrontOf (take from bytes.now) top.now
+        → IsFrontOf bytes.now (longer top.now bytes.now) }
+    ensures top { result ≡ true → IsFrontOf (take from bytes.now) top.now
+        → IsFrontOf top.now (longer top.now bytes.now) }
 {
     let both = bytes.len().min(top.len());
     both <= from || &bytes[from..both] == &top[from..both]

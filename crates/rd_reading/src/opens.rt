@@ -67,7 +67,11 @@ impl Open {
 
     /// What is open behind the first bytes.
     fn past(&self, alloc: Global, len: usize) -> Result<Open, NoMemory>
-        ensures { IfOk result (λ o. o ≡ record { link = self.now.link; bytes = drop len self.now.bytes; is_ended = self.now.is_ended }) }
+        ensures { IfOk result (λ o. o ≡ record {
+          link = self.now.link;
+          bytes = drop len self.now.bytes;
+          is_ended = self.now.is_ended;
+        }) }
     {
         Ok(Open {
             link: self.link,
@@ -162,7 +166,8 @@ fn is_end_of(link: Link, what: &What) -> bool
 pub fn scan_open<D: Dialect>(dialect: &D, due: Due, one: &Open) -> Scan
     ensures scan { result ≡ rule.scan_open (D.grammar dialect.now) due one.now }
     ensures within { (len : ℕ) → result ≡ Whole len → len ≤ length one.now.bytes }
-    ensures unit { (len : ℕ) → result ≡ Whole len → IsDue (D.grammar dialect.now) due (take len one.now.bytes) true }
+    ensures unit { (len : ℕ) → result ≡ Whole len
+        → IsDue (D.grammar dialect.now) due (take len one.now.bytes) true }
     ensures part { result ≡ More → IsDue (D.grammar dialect.now) due one.now.bytes false }
 {
     scan_due(dialect, due, one.bytes(), one.is_ended())

@@ -32,9 +32,12 @@ fn request_at<D: Dialect>(
     front: &Front,
 ) -> Result<Option<Request>, NoMemory>
     requires { AreMaskLimits setup.now.limits.mask }
-    ensures asks { IfOk result (λ found. option_map seen_request found ≡ rule.ask_at (D.grammar dialect.now) setup.now.limits.mask (seen_front front.now)) }
-    ensures whole { IfOk result (λ found. IfSome found (λ r. IsAsked (D.grammar dialect.now) (seen_request r))) }
-    ensures masked { IfOk result (λ found. IfSome found (λ r. IsMasked (rules_of (D.grammar dialect.now) setup.now) r)) }
+    ensures asks { IfOk result (λ found. option_map seen_request found
+        ≡ rule.ask_at (D.grammar dialect.now) setup.now.limits.mask (seen_front front.now)) }
+    ensures whole { IfOk result (λ found. IfSome found (λ r.
+        IsAsked (D.grammar dialect.now) (seen_request r))) }
+    ensures masked { IfOk result (λ found. IfSome found (λ r.
+        IsMasked (rules_of (D.grammar dialect.now) setup.now) r)) }
 {
     let phase = front.phase;
     let found = whole_units(alloc, dialect, Due::request(phase), front.asking.as_slice())?;
@@ -74,10 +77,17 @@ fn replies_to<D: Dialect>(
 ) -> Result<Option<Replies>, NoMemory>
     requires limits { AreMaskLimits setup.now.limits.mask }
     requires asked { IsAsked (D.grammar dialect.now) (seen_request request.now) }
-    ensures replies { IfOk result (λ found. option_map (λ r. r.units.items) found ≡ rule.replies_at (D.grammar dialect.now) setup.now.limits.mask (seen_front front.now) (seen_request request.now)) }
-    ensures whole { IfOk result (λ found. IfSome found (λ r. IsAnswered (D.grammar dialect.now) (seen_request request.now) r.units.items)) }
-    ensures rows { IfOk result (λ found. IfSome found (λ r. r.rows ≡ exchange_rows (rules_of (D.grammar dialect.now) setup.now) (record { ask = seen_request request.now; replies = r.units.items }))) }
-    ensures masked { IfOk result (λ found. IfSome found (λ r. r.masked ≡ replies_masked (rules_of (D.grammar dialect.now) setup.now) (record { ask = seen_request request.now; replies = r.units.items }))) }
+    ensures replies { IfOk result (λ found. option_map (λ r. r.units.items) found
+        ≡ rule.replies_at (D.grammar dialect.now) setup.now.limits.mask (seen_front front.now)
+        (seen_request request.now)) }
+    ensures whole { IfOk result (λ found. IfSome found (λ r.
+        IsAnswered (D.grammar dialect.now) (seen_request request.now) r.units.items)) }
+    ensures rows { IfOk result (λ found. IfSome found (λ r. r.rows
+        ≡ exchange_rows (rules_of (D.grammar dialect.now) setup.now)
+        (record { ask = seen_request request.now; replies = r.units.items }))) }
+    ensures masked { IfOk result (λ found. IfSome found (λ r. r.masked
+        ≡ replies_masked (rules_of (D.grammar dialect.now) setup.now)
+        (record { ask = seen_request request.now; replies = r.units.items }))) }
 {
     let note = note_of(dialect, request);
     if dialect.is_farewell(note) {
@@ -125,7 +135,8 @@ fn after_exchange<D: Dialect>(
     exchange: &DoneExchange,
 ) -> Result<Front, NoMemory>
     requires { IsDone (D.grammar dialect.now) (seen_exchange exchange.now) }
-    ensures { IfOk result (λ f. seen_front f ≡ rule.after (D.grammar dialect.now) (seen_front front.now) (seen_exchange exchange.now)) }
+    ensures { IfOk result (λ f. seen_front f ≡ rule.after (D.grammar dialect.now)
+        (seen_front front.now) (seen_exchange exchange.now)) }
 {
     let request = &exchange.request;
     let replies = exchange.replies.units.as_slice();
@@ -169,13 +180,19 @@ pub fn read_on<'a, D: Dialect>(
 ) -> Result<Reading<'a>, NoMemory>
     requires { AreMaskLimits setup.now.limits.mask }
     ensures from { IfOk result (λ r. r.from.now ≡ front.now) }
-    ensures reads { IfOk result (λ r. seen_reading r ≡ rule.read (D.grammar dialect.now) setup.now.limits.mask spare (seen_front front.now)) }
+    ensures reads { IfOk result (λ r. seen_reading r
+        ≡ rule.read (D.grammar dialect.now) setup.now.limits.mask spare (seen_front front.now)) }
     ensures spare { IfOk result (λ r. length r.done.items + r.spare ≡ spare) }
-    ensures done { IfOk result (λ r. All (λ x. IsDone (D.grammar dialect.now) (seen_exchange x)) r.done.items) }
-    ensures rows { IfOk result (λ r. rows_are (rules_of (D.grammar dialect.now) setup.now) r.done.items) }
-    ensures masked { IfOk result (λ r. All (AreMasked (rules_of (D.grammar dialect.now) setup.now)) r.done.items) }
-    ensures out { IfOk result (λ r. IfSome r.out (λ request. IsAsked (D.grammar dialect.now) (seen_request request))) }
-    ensures out_masked { IfOk result (λ r. IfSome r.out (IsMasked (rules_of (D.grammar dialect.now) setup.now))) }
+    ensures done { IfOk result (λ r. All (λ x. IsDone (D.grammar dialect.now) (seen_exchange x))
+        r.done.items) }
+    ensures rows { IfOk result (λ r. rows_are (rules_of (D.grammar dialect.now) setup.now)
+        r.done.items) }
+    ensures masked { IfOk result (λ r. All (AreMasked (rules_of (D.grammar dialect.now) setup.now))
+        r.done.items) }
+    ensures out { IfOk result (λ r. IfSome r.out (λ request.
+        IsAsked (D.grammar dialect.now) (seen_request request))) }
+    ensures out_masked { IfOk result (λ r. IfSome r.out
+        (IsMasked (rules_of (D.grammar dialect.now) setup.now))) }
 {
     let mut done = Vec::new(alloc);
     let mut left = None;

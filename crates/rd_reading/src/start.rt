@@ -15,7 +15,8 @@ use std::alloc::Global;
 pub fn start_front<D: Dialect>(alloc: Global, dialect: &D, setup: &Setup) -> Result<Front, NoMemory>
     requires some { 1 ≤ setup.now.limits.copies }
     requires few { setup.now.limits.copies ≤ 8 }
-    ensures { IfOk result (λ f. seen_front f ≡ rule.start_front (rules_of (D.grammar dialect.now) setup.now) []) }
+    ensures { IfOk result (λ f. seen_front f ≡ rule.start_front
+        (rules_of (D.grammar dialect.now) setup.now) []) }
 {
     let phase = dialect.first_phase();
     let single = single_open(alloc, setup.limits.copies)?;

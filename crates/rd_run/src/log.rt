@@ -27,7 +27,10 @@ impl<R: Wait + Copy> Log<R> {
     /// The log of these entries. Without a pass there are none.
     pub fn of(entries: Entries, owner: Option<OwnerPass<R>>) -> Log<R>
         requires { owner ≡ None → entries.list ≡ [] }
-        ensures { result ≡ record { entries = entries.list; pass = option_map (λ p. p.knows) owner } }
+        ensures { result ≡ record {
+          entries = entries.list;
+          pass = option_map (λ p. p.knows) owner;
+        } }
     {
         Log { entries, owner }
     }

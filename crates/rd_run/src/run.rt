@@ -76,7 +76,8 @@ pub fn run_in<
         (λ v. outside v (C.tells clock.new) (Q.tells stop.new) (B.tells book.new))
         (P.tells spawner.old).refusals (P.tells spawner.new).refusals
         result (map K.tells sinks.old.items) (map K.tells sinks.new.items) }
-    ensures sources { LinksDone (may_stay result) (taken_in result) 0 (map S.tells sources.items) (map S.tells result.sources.items) }
+    ensures sources { LinksDone (may_stay result) (taken_in result) 0 (map S.tells sources.items)
+        (map S.tells result.sources.items) }
 {
     let setup = Setup {
         side: Side::Incoming,
@@ -116,7 +117,8 @@ pub fn run_out<
         (λ v. outside v (C.tells clock.new) (Q.tells stop.new) None)
         (P.tells spawner.old).refusals (P.tells spawner.new).refusals
         result (map K.tells sinks.old.items) (map K.tells sinks.new.items) }
-    ensures sources { LinksDone (may_stay result) (taken_in result) 0 (map S.tells sources.items) (map S.tells result.sources.items) }
+    ensures sources { LinksDone (may_stay result) (taken_in result) 0 (map S.tells sources.items)
+        (map S.tells result.sources.items) }
 {
     let setup = Setup {
         side: Side::Outgoing,
@@ -151,9 +153,12 @@ fn make_ready<D: Dialect, S: Source, R: Wait + Threads + Copy>(
     ensures begins { IfOk result (λ x. IsAt (rules_of (D.grammar dialect) setup) x.session []) }
     ensures gate { IfOk result (λ x. x.gate.knows ≡ owner (setup.limits.copies + 1) [] [] []) }
     ensures passes { IfOk result (λ x. x.passes ≡ fresh x.gate.gate (setup.limits.copies + 1)) }
-    ensures readings { IfOk result (λ x. (x.readings.items ≡ []) × (setup.limits.copies + 1 ≤ vec_capacity x.readings)) }
-    ensures unread { IfOk result (λ x. (x.unread.items ≡ []) × (setup.limits.copies + 1 ≤ vec_capacity x.unread)) }
-    ensures back { IfOk result (λ x. (x.back.items ≡ []) × (setup.limits.copies + 1 ≤ vec_capacity x.back)) }
+    ensures readings { IfOk result (λ x. (x.readings.items ≡ [])
+        × (setup.limits.copies + 1 ≤ vec_capacity x.readings)) }
+    ensures unread { IfOk result (λ x. (x.unread.items ≡ [])
+        × (setup.limits.copies + 1 ≤ vec_capacity x.unread)) }
+    ensures back { IfOk result (λ x. (x.back.items ≡ [])
+        × (setup.limits.copies + 1 ≤ vec_capacity x.back)) }
 {
     let links = setup.limits.copies + 1;
     let session = Session::new(alloc, dialect, setup)?;
@@ -199,7 +204,8 @@ fn run_session<
         (λ v. outside v (C.tells clock.new) (Q.tells stop.new) (B.tells book.new))
         (P.tells spawner.old).refusals (P.tells spawner.new).refusals
         result (map K.tells sinks.old.items) (map K.tells sinks.new.items) }
-    ensures sources { LinksDone (may_stay result) (taken_in result) 0 (map S.tells sources.items) (map S.tells result.sources.items) }
+    ensures sources { LinksDone (may_stay result) (taken_in result) 0 (map S.tells sources.items)
+        (map S.tells result.sources.items) }
 {
     let Ok(ready) = make_ready(rt, alloc, dialect, setup) else {
         return run_unmade(alloc, sources, sinks);
@@ -251,7 +257,10 @@ fn run_of<S: Source, R: Wait + Copy>(
     sources: Vec<S>,
 ) -> Run<S, R>
     ensures ending { result.report.ending ≡ left.ending }
-    ensures log { result.report.log ≡ record { entries = journal.entries.list; pass = Some gate.knows } }
+    ensures log { result.report.log ≡ record {
+      entries = journal.entries.list;
+      pass = Some gate.knows;
+    } }
     ensures told { result.report.told ≡ journal.told }
     ensures exchanges { result.report.exchanges ≡ left.counts.exchanges }
     ensures masked { result.report.masked ≡ left.counts.masked }
@@ -284,9 +293,11 @@ pub fn run_unmade<S: Source, K: Sink, R: Wait + Copy>(
     sources: Vec<S>,
     sinks: &mut Vec<K>,
 ) -> Run<S, R>
-    ensures run { (r : Rules) (asks : View → Outside) (refusals : ℕ) → RunsBy r asks asks refusals refusals
+    ensures run { (r : Rules) (asks : View → Outside) (refusals : ℕ)
+        → RunsBy r asks asks refusals refusals
         result (map K.tells sinks.old.items) (map K.tells sinks.new.items) }
-    ensures sources { LinksDone (may_stay result) (taken_in result) 0 (map S.tells sources.items) (map S.tells result.sources.items) }
+    ensures sources { LinksDone (may_stay result) (taken_in result) 0 (map S.tells sources.items)
+        (map S.tells result.sources.items) }
 {
     close_all(sinks);
     unmade(alloc, sources)

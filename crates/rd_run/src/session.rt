@@ -62,10 +62,12 @@ pub(crate) fn run_started<
     requires begins { IsAt (rules_by D.grammar session.old) session.old [] }
     requires gate { gate.old.knows ≡ owner (session.old.setup.limits.copies + 1) [] [] [] }
     requires readings { vec_len readings ≡ session.old.setup.limits.copies + 1 }
-    requires passes { (k : ℕ) (r : S × Known) → slice_get readings.items k ≡ Some r → r.1 ≡ known gate.old.gate (reader k []) }
+    requires passes { (k : ℕ) (r : S × Known) → slice_get readings.items k ≡ Some r
+        → r.1 ≡ known gate.old.gate (reader k []) }
     requires room { vec_len readings ≤ vec_capacity sources.old }
     requires nothing { sources.old.items ≡ [] }
-    ensures sources { (k : ℕ) (r : S × Known) (s : S) → slice_get readings.items k ≡ Some r → slice_get sources.new.items k ≡ Some s
+    ensures sources { (k : ℕ) (r : S × Known) (s : S) → slice_get readings.items k ≡ Some r
+        → slice_get sources.new.items k ≡ Some s
         → LinkRead (of k gate.new.knows.taken) (S.tells r.0) (S.tells s) }
     ensures all_back { vec_len sources.new ≡ vec_len readings }
     ensures run { SessionRan (rules_by D.grammar session.old)
@@ -121,14 +123,17 @@ pub(crate) fn leave_unstarted<D: Dialect, S: Source, K: Sink, R: Wait + Threads 
     requires few { vec_len readings ≤ 9 }
     requires made { gate.old.knows.made ≡ vec_len readings + vec_len unread }
     requires fresh { gate.old.knows.taken ≡ [] }
-    requires passes { AreFresh gate.old.gate 0 (map (λ r. r.1) readings.items ++ map (λ n. n.pass) unread.items) }
+    requires passes { AreFresh gate.old.gate 0 (map (λ r. r.1) readings.items
+        ++ map (λ n. n.pass) unread.items) }
     requires room { vec_len readings + vec_len unread ≤ vec_capacity sources.old }
     requires nothing { sources.old.items ≡ [] }
     ensures ending { result.ending ≡ Ending.Unstarted }
     ensures closed { AllClosed (map K.tells sinks.old.items) (map K.tells sinks.new.items) }
     ensures count { vec_len sinks.new ≡ vec_len sinks.old }
     ensures left { TakesAll gate.new.knows result.left }
-    ensures sources { LinksDone (Unit {0}) (λ l. of l gate.new.knows.taken) 0 (map S.tells (map (λ r. r.0) readings.items ++ map (λ n. n.source) unread.items)) (map S.tells sources.new.items) }
+    ensures sources { LinksDone (Unit {0}) (λ l.
+        of l gate.new.knows.taken) 0 (map S.tells (map (λ r. r.0) readings.items
+        ++ map (λ n. n.source) unread.items)) (map S.tells sources.new.items) }
 {
     close_all(sinks);
     let started = readings.len() as u8;

@@ -166,7 +166,8 @@ fn count_step<D: Dialect>(
     requires small { AreSmall place counts }
     ensures dialect { session.new.dialect ≡ session.old.dialect }
     ensures setup { session.new.setup ≡ session.old.setup }
-    ensures at { OnOk result (IsAt (rules_of (D.grammar session.old.dialect) session.old.setup) session.new (take (place + 1) script.now.entries)) }
+    ensures at { OnOk result (IsAt (rules_of (D.grammar session.old.dialect) session.old.setup)
+        session.new (take (place + 1) script.now.entries)) }
     ensures counts { IfOk result (AreCounts (rules_of
         (D.grammar session.old.dialect) session.old.setup) (take (place + 1) script.now.entries)) }
     ensures small { IfOk result (AreSmall (place + 1)) }

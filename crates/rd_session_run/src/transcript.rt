@@ -55,13 +55,15 @@ fn run_steps<D: Dialect, K: Sink>(
     script: &Script,
     out: &mut K,
 ) -> Result<(), ScriptFail>
-    requires begins { IsAt (rules_of (D.grammar session.old.dialect) session.old.setup) session.old [] }
+    requires begins { IsAt (rules_of (D.grammar session.old.dialect) session.old.setup)
+        session.old [] }
     requires well_formed { is_well_formed session.old.setup.limits.copies script.now.entries
         ≡ true }
     requires is_open { (K.tells out.old).is_closed ≡ false }
     ensures dialect { session.new.dialect ≡ session.old.dialect }
     ensures setup { session.new.setup ≡ session.old.setup }
-    ensures at { OnOk result (IsAt (rules_of (D.grammar session.old.dialect) session.old.setup) session.new script.now.entries) }
+    ensures at { OnOk result (IsAt (rules_of (D.grammar session.old.dialect) session.old.setup)
+        session.new script.now.entries) }
     ensures ok { OnOk result ((K.tells out.new).held ≡ held_with (K.tells out.old).held
         (all_steps_text (rules_of (D.grammar session.old.dialect) session.old.setup) script.now.entries)) }
     ensures err { OnErr result (HoldsPrefix (K.tells out.old).held (K.tells out.new).held
@@ -93,7 +95,8 @@ fn run_step<D: Dialect, K: Sink>(
     requires is_open { (K.tells out.old).is_closed ≡ false }
     ensures dialect { session.new.dialect ≡ session.old.dialect }
     ensures setup { session.new.setup ≡ session.old.setup }
-    ensures at { OnOk result (IsAt (rules_of (D.grammar session.old.dialect) session.old.setup) session.new (take (place + 1) script.now.entries)) }
+    ensures at { OnOk result (IsAt (rules_of (D.grammar session.old.dialect) session.old.setup)
+        session.new (take (place + 1) script.now.entries)) }
     ensures ok { OnOk result ((K.tells out.new).held ≡ held_with (K.tells out.old).held
         (step_text (rules_of (D.grammar session.old.dialect) session.old.setup) script.now.entries place)) }
     ensures err { OnErr result (HoldsPrefix (K.tells out.old).held (K.tells out.new).held

@@ -44,7 +44,8 @@ impl<J: Naming, R: Wait + Copy> Book<J, R> {
 
     /// A seat that wasn't given out before; `None` exactly where all were.
     pub fn seat(&mut self) -> Option<BookSeat<J, R>>
-        ensures { MatchOption result ((self.old ≡ []) × (self.new ≡ [])) (λ seat. self.old ≡ self.new ++ seat ∷ []) }
+        ensures { MatchOption result ((self.old ≡ [])
+            × (self.new ≡ [])) (λ seat. self.old ≡ self.new ++ seat ∷ []) }
     {
         self.seats.pop()
     }

@@ -64,7 +64,8 @@ fn append<T: Absorb<O> + Drop, O: Drop, R: Wait + Copy>(
 
 /// Publishes what is pending. Where there is no memory it tries again.
 fn publish<T: Absorb<O> + Drop, O: Drop, R: Wait + Copy>(rt: &R, writer: &mut WriteHandle<T, O, R>)
-    ensures state { T.state (published writer.new) ≡ fold T.applied (T.state (published writer.old)) (pending writer.old) }
+    ensures state { T.state (published writer.new)
+        ≡ fold T.applied (T.state (published writer.old)) (pending writer.old) }
     ensures pending { pending writer.new ≡ [] }
 {
     for _ in rt.forever() {

@@ -73,7 +73,10 @@ impl<J: Naming> Known<J> {
 
     /// Has looked up a word.
     pub fn found<R: Wait>(&mut self, rt: &R, word: &[u8], answer: &Option<Row>)
-        ensures { self.new ≡ record self.old { calls = self.old.calls ++ Found word.now answer.now ∷ [] } }
+        ensures { self.new ≡ record self.old {
+          calls = self.old.calls
+              ++ Found word.now answer.now ∷ [];
+        } }
     {
         self.calls.found(rt, word, answer);
     }
@@ -87,7 +90,9 @@ impl<J: Naming> Known<J> {
         length: &Length<J>,
         row: &Row,
     ) -> Option<Learns<J>>
-        ensures some { IfSome result (λ after. IsFresh J.seats self.old self.new × (self.new.learns ≡ after) × (self.new.calls ≡ self.old.calls ++ Learned row.now ∷ [])) }
+        ensures some { IfSome result (λ after. IsFresh J.seats self.old self.new
+            × (self.new.learns ≡ after) × (self.new.calls ≡ self.old.calls
+            ++ Learned row.now ∷ [])) }
         ensures ends { IfSome result (λ after. EndsIn J.seats self.old.number row.now after) }
         ensures none { IfNone result (self.new ≡ self.old) }
     {

@@ -131,7 +131,8 @@ fn look_up<J: Naming, R: Wait>(
     known: &mut Known<J>,
     word: &[u8],
 ) -> Option<Option<Row>>
-    ensures told { IfSome result (λ answer. Finds word.now answer (Some known.old.calls) (Some known.new.calls)) }
+    ensures told { IfSome result (λ answer. Finds word.now answer (Some known.old.calls)
+        (Some known.new.calls)) }
     ensures answer { IfSome result (λ answer. answer ≡ found word.now known.new.learns) }
     ensures fresh { IfSome result (λ answer. IsFresh J.seats known.old known.new) }
     ensures none { IfNone result (known.new ≡ known.old) }
@@ -171,8 +172,10 @@ fn look_for_both<J: Naming>(
     one: &Known<J>,
     two: &Known<J>,
 ) -> Option<Learns<J>>
-    ensures one { IfSome result (λ learns. IsFresh J.seats one.now (record one.now { learns = learns })) }
-    ensures two { IfSome result (λ learns. IsFresh J.seats two.now (record two.now { learns = learns })) }
+    ensures one { IfSome result (λ learns. IsFresh J.seats one.now
+        (record one.now { learns = learns })) }
+    ensures two { IfSome result (λ learns. IsFresh J.seats two.now
+        (record two.now { learns = learns })) }
 {
     let guard = reader.enter()?;
     let shelf: &Shelf<J> = &guard;

@@ -18,7 +18,9 @@ pub(crate) fn look_up<D: Dialect, B: TokenBook>(
     book: &mut B,
     happening: &Happening,
 ) -> Result<Rows, NoMemory>
-    ensures looks { LooksUp (rules_by D.grammar session.now) (IsAt (rules_by D.grammar session.now) session.now) happening.now (B.tells book.old) (B.tells book.new) result }
+    ensures looks { LooksUp (rules_by D.grammar session.now)
+        (IsAt (rules_by D.grammar session.now) session.now) happening.now (B.tells book.old)
+        (B.tells book.new) result }
 {
     let words = session.wanted(happening)?;
     find_all(alloc, book, &words)

@@ -28,7 +28,8 @@ pub(crate) fn hear<R: Wait + Copy, C: Clock, Q: Stopper>(
     due: Option<u64>,
 ) -> Heard
     ensures gate { gate.new.gate ≡ gate.old.gate }
-    ensures hears { Hears base due gate.old.knows gate.new.knows (C.tells clock.old) (C.tells clock.new) (Q.tells stop.old) (Q.tells stop.new) result }
+    ensures hears { Hears base due gate.old.knows gate.new.knows (C.tells clock.old)
+        (C.tells clock.new) (Q.tells stop.old) (Q.tells stop.new) result }
 {
     let at = clock.now().saturating_sub(base);
     if stop.asked() {

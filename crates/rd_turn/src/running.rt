@@ -100,7 +100,8 @@ pub fn run_turns<D: Dialect, K: Sink, R: Wait + Copy, C: Clock, Q: Stopper, B: T
 }
 
 fn counts_of<D: Dialect>(session: &Session<D>) -> Counts
-    ensures { (h : History) → IsAt (rules_by D.grammar session.now) session.now h → AreCounts (rules_by D.grammar session.now) h result }
+    ensures { (h : History) → IsAt (rules_by D.grammar session.now) session.now h
+        → AreCounts (rules_by D.grammar session.now) h result }
 {
     Counts {
         exchanges: session.exchanges(),

@@ -10,9 +10,11 @@ use rd_base::{Link, Sends, Sink};
 pub(crate) fn send_all<K: Sink>(sinks: &mut Vec<K>, sends: &Sends) -> Result<(), Link>
     requires few { vec_len sinks.old ≤ 9 }
     requires open { AreOpen (map K.tells sinks.old.items) }
-    ensures ok { OnOk result ((bytes_for : ℕ → List ℕ) → sends.now ≡ sends_to (vec_len sinks.old) bytes_for
+    ensures ok { OnOk result ((bytes_for : ℕ → List ℕ)
+        → sends.now ≡ sends_to (vec_len sinks.old) bytes_for
         → AllWrote bytes_for (map K.tells sinks.old.items) (map K.tells sinks.new.items)) }
-    ensures err { IfErr result (λ w. (bytes_for : ℕ → List ℕ) → sends.now ≡ sends_to (vec_len sinks.old) bytes_for
+    ensures err { IfErr result (λ w. (bytes_for : ℕ → List ℕ)
+        → sends.now ≡ sends_to (vec_len sinks.old) bytes_for
         → WroteTo w.0 bytes_for (map K.tells sinks.old.items) (map K.tells sinks.new.items)) }
     ensures link { IfErr result (λ w. w.0 < vec_len sinks.old) }
     ensures count { vec_len sinks.new ≡ vec_len sinks.old }
