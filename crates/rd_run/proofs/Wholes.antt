@@ -22,14 +22,17 @@ use Rattle.rd_run.proofs.Links.{links_weaker}
 
 module _ {S R : Type 0} where
   pub was_unmade : (r : Rules) (before after : View → Outside) (n n' : ℕ) (run : Run S R) (olds news : List SinkTold)
-      → run.report.ending ≡ ending.NoMemory → run.report.log ≡ record { entries = []; pass = None } → run.report.told ≡ [] → run.left_over ≡ All []
+      → run.report.ending ≡ ending.NoMemory → run.report.log ≡ record { entries = []; pass = None } → run.report.told ≡ []
+      → run.report.exchanges ≡ 0 → run.report.masked ≡ 0 → run.left_over ≡ All []
       → ((v : View) → after v ≡ before v) → n' ≡ n → AllClosed olds news
       → RunsBy r before after n n' run olds news
-  was_unmade r before after n n' run olds news end log told left asked refused closed =
+  was_unmade r before after n n' run olds news end log told exchanges masked left asked refused closed =
       subst (λ p. RunsWith r before after n n' p run olds news) (sym (ap (λ (l : LogView). l.pass) log)) (record {
         end = end;
         entries = ap (λ (l : LogView). l.entries) log;
         told = told;
+        exchanges = exchanges;
+        masked = masked;
         left = left;
         asked = asked;
         refused = refused;
@@ -37,16 +40,19 @@ module _ {S R : Type 0} where
       })
 
   pub was_unstarted : (r : Rules) (before after : View → Outside) (n n' : ℕ) (v : View) (run : Run S R) (left : Left) (entries : List LogEntry) (olds news : List SinkTold)
-      → run.report.ending ≡ left.ending → run.report.log ≡ record { entries = entries; pass = Some v } → run.report.told ≡ [] → run.left_over ≡ left.left
+      → run.report.ending ≡ left.ending → run.report.log ≡ record { entries = entries; pass = Some v } → run.report.told ≡ []
+      → run.report.exchanges ≡ 0 → run.report.masked ≡ 0 → run.left_over ≡ left.left
       → left.ending ≡ ending.Unstarted → entries ≡ [] → TakesAll v left.left
       → ((w : View) → after w ≡ before w) → Rose n n' → AllClosed olds news
       → RunsBy r before after n n' run olds news
-  was_unstarted r before after n n' v run left entries olds news end log told left_is unstarted none takes asked rose closed =
+  was_unstarted r before after n n' v run left entries olds news end log told exchanges masked left_is unstarted none takes asked rose closed =
       subst (λ p. RunsWith r before after n n' p run olds news) (sym (ap (λ (l : LogView). l.pass) log)) (inl (record {
         items = takes.items;
         end = end ∙ unstarted;
         entries = ap (λ (l : LogView). l.entries) log ∙ none;
         told = told;
+        exchanges = exchanges;
+        masked = masked;
         taken = takes.taken;
         left = subst (λ l. Keeps (All []) l takes.items) (sym left_is) takes.keeps;
         asked = asked;

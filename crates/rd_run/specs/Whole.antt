@@ -41,6 +41,8 @@ module _ {S R : Type 0} where
     pub end : run.report.ending ≡ ending.NoMemory
     pub entries : run.report.log.entries ≡ []
     pub told : run.report.told ≡ []
+    pub exchanges : run.report.exchanges ≡ 0
+    pub masked : run.report.masked ≡ 0
     pub left : run.left_over ≡ All []
     pub asked : (v : View) → after v ≡ before v
     pub refused : refusals' ≡ refusals
@@ -52,6 +54,8 @@ module _ {S R : Type 0} where
     pub end : run.report.ending ≡ ending.Unstarted
     pub entries : run.report.log.entries ≡ []
     pub told : run.report.told ≡ []
+    pub exchanges : run.report.exchanges ≡ 0
+    pub masked : run.report.masked ≡ 0
     pub taken : v.taken ≡ plain items
     pub left : Keeps (All []) run.left_over items
     pub asked : (w : View) → after w ≡ before w

@@ -228,9 +228,7 @@ fn run_session<
         &mut readings,
         &mut unread,
     ) {
-        let left = leave_unstarted(
-            rt, alloc, &session, &mut gate, readings, unread, &mut back, sinks,
-        );
+        let left = leave_unstarted(rt, alloc, &mut gate, readings, unread, &mut back, sinks);
         return run_of(left, journal, gate, back);
     }
     let left = run_started(

@@ -110,10 +110,9 @@ fn left_of(alloc: Global, back: Option<(Link, Item)>) -> LeftOver
 
 /// A session of which a reader's start was refused. Its sinks are closed, so that the readers which were started end; what
 /// they hand on is kept, and they are joined. The other sources come back behind theirs.
-pub(crate) fn leave_unstarted<D: Dialect, S: Source, K: Sink, R: Wait + Threads + Copy>(
+pub(crate) fn leave_unstarted<S: Source, K: Sink, R: Wait + Threads + Copy>(
     rt: R,
     alloc: Global,
-    session: &Session<D>,
     gate: &mut OwnerPass<R>,
     readings: Vec<Reading<S, R>>,
     unread: Vec<NotStarted<S, R>>,
@@ -128,6 +127,8 @@ pub(crate) fn leave_unstarted<D: Dialect, S: Source, K: Sink, R: Wait + Threads 
     requires room { vec_len readings + vec_len unread ≤ vec_capacity sources.old }
     requires nothing { sources.old.items ≡ [] }
     ensures ending { result.ending ≡ Ending.Unstarted }
+    ensures exchanges { result.counts.exchanges ≡ 0 }
+    ensures masked { result.counts.masked ≡ 0 }
     ensures closed { AllClosed (map K.tells sinks.old.items) (map K.tells sinks.new.items) }
     ensures count { vec_len sinks.new ≡ vec_len sinks.old }
     ensures left { TakesAll gate.new.knows result.left }
@@ -145,8 +146,8 @@ pub(crate) fn leave_unstarted<D: Dialect, S: Source, K: Sink, R: Wait + Threads 
         ending: Ending::Unstarted,
         failed: None,
         counts: Counts {
-            exchanges: session.exchanges(),
-            masked: session.masked(),
+            exchanges: 0,
+            masked: 0,
         },
         left,
     }

@@ -46,7 +46,8 @@ returns-then-not-start_all-clause-run g c =
     let left = c.leave_unstarted-left in
     was_unstarted r asks asks (g.P.Spawner.tells c.args.spawner.now).refusals (g.P.Spawner.tells c.start_all.new.spawner).refusals left.new.gate.knows c.run_of.result left.result
     c.new-journal.result.entries.list (map g.K.Sink.tells c.args.sinks.now.items) (map g.K.Sink.tells left.new.sinks.items)
-    c.run_of.ensures.ending c.run_of.ensures.log (c.run_of.ensures.told ∙ c.new-journal.ensures.told) c.run_of.ensures.left
+    c.run_of.ensures.ending c.run_of.ensures.log (c.run_of.ensures.told ∙ c.new-journal.ensures.told)
+    (c.run_of.ensures.exchanges ∙ left.ensures.exchanges) (c.run_of.ensures.masked ∙ left.ensures.masked) c.run_of.ensures.left
     left.ensures.ending c.new-journal.ensures.entries left.ensures.left (λ w. refl) c.if-not-start_all.ensures.counts left.ensures.closed
 
 pub returns-then-not-start_all-clause-sources : goal.returns-then-not-start_all-clause-sources
