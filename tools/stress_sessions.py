@@ -1,7 +1,7 @@
 #!/usr/bin/env python3
 """Runs 10,000 sessions over wires, with readers that are late by chance, and has the log of each replayed.
 
-    tools/stress_sessions.py            all of it: about ten minutes on 4 processors
+    tools/stress_sessions.py            all of it: half a minute on 4 processors, behind the build
     tools/stress_sessions.py sessions   10,000 sessions of 3 and 8 copies, of both sides, in which something goes wrong by chance
     tools/stress_sessions.py long       one session, whose client says a million pieces of a byte each
     tools/stress_sessions.py races      twenty sessions under `valgrind --tool=drd`, of either plan, and what it reports
@@ -9,6 +9,15 @@
 It runs the program of crates/rd_stress, which `rt run` proves and builds first. The program replays each log by the call
 that replays scripts, and compares the sends with what the sinks hold, and the ending. `--seed N` runs other sessions. The
 first thing that isn't as it should be ends the run with status 1.
+
+DRD knows no synchronization but that of the C library's threads, and these programs use atomics and futexes. So it reports
+what one thread writes for another, and `races` prints by whom it is touched and whose memory it is. What was seen:
+
+- `take`, `hear`, `drain`, `send` and `reader_loop` on memory of `make_ready`: the gate's cells, whose turn is an atomic.
+- `reader_loop`, `tell` and `lock` on memory of `run_one`: a wire's lock, its two words and its condition.
+- `memmove` on memory of `reader_loop`: the bytes of a piece, which came through such a cell.
+
+A report of other functions or other memory is one to look into.
 """
 
 import argparse
