@@ -5,6 +5,7 @@ ghost use Rattle.rd_serve.specs.Crossing.{Crosses};
 ghost use Rattle.rd_serve.specs.Sessions.{Keeps};
 
 use rd_base::{Clock, Side, Sink, Source, Stopper};
+use rd_desk::Begun;
 use rd_doors::Ends;
 use rd_run_session::{SessionLeft, SessionRunner, run_visit};
 use rd_runner::Ended;
@@ -56,6 +57,7 @@ pub struct Session<
     pub number: u64,
     pub side: Side,
     pub ends: Snapshot<Ends<S, K>>,
+    pub begun: Begun,
     pub handle: PromisedHandle<Served<S, K, P, C, T, R>, Handed<S, K, P, C, T, R>>,
     pub flag: Arc<AtomicBool, Global>,
 }

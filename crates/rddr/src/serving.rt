@@ -16,9 +16,11 @@ ghost use Rattle.rddr.specs.Works.{refusal_outcome, is_told};
 use crate::refusal::Refusal;
 use crate::replay::refuse_to_serve;
 use crate::work::settings_file;
-use rd_base::{Clock, Files, NoMemory, Sink, Stopper};
+use rd_base::{Bytes, Clock, Files, NoMemory, Sink, Stopper};
 use rd_conf::{Key, Ports, Settings, SettingsFail};
+use rd_desk::Desk;
 use rd_doors::{DoorFail, Doors};
+use rd_keeper::{KeepFail, Keeper};
 use rd_run_session::{SessionLeft, SessionRunner};
 use rd_serve::serve;
 use rd_start::Spawner;
@@ -40,6 +42,7 @@ pub fn run_main<
     T: Stopper + Send + 'static,
     R: Wait + Threads + Copy + Send + Sync + 'static,
     E: Doors<SessionLeft<R>>,
+    Y: Keeper,
 >(
     rt: R,
     alloc: Global,
@@ -50,6 +53,7 @@ pub fn run_main<
     spawner: &mut P,
     clock: &mut C,
     stop: &mut T,
+    keeper: &mut Y,
 ) -> u8
     requires output { (K.tells out.old).is_closed ≡ false }
     requires untold { (told : List (Entry (SessionLeft R))) → (E.tells doors.old).told ≡ Some told
@@ -91,8 +95,24 @@ pub fn run_main<
     ensures stays { StaysOpen (K.tells out.old) (K.tells out.new) }
 {
     match served_settings(alloc, words, files) {
-        Ok(settings) => serve_by(rt, alloc, settings, doors, spawner, clock, stop),
+        Ok(settings) => serve_by(
+            rt, alloc, settings, doors, spawner, clock, stop, keeper,
+        ),
         Err(refusal) => refuse_to_serve(alloc, refusal, out),
+    }
+}
+
+/// The name of the file that keeps notes, by the settings of `run SETTINGS`. None where they name none, or can't be read.
+pub fn records_of<F: Files>(
+    alloc: Global,
+    words: &[String],
+    files: &mut F,
+) -> Result<Option<Bytes>, NoMemory> {
+    match served_settings(alloc, words, files) {
+        Ok(settings) if settings.ports.records.len() > 0 => Ok(Some(settings.ports.records)),
+        Ok(_) => Ok(None),
+        Err(Refusal::NoMemory) => Err(NoMemory),
+        Err(_) => Ok(None),
     }
 }
 
@@ -183,6 +203,7 @@ fn serve_by<
     T: Stopper + Send + 'static,
     R: Wait + Threads + Copy + Send + Sync + 'static,
     E: Doors<SessionLeft<R>>,
+    Y: Keeper,
 >(
     rt: R,
     alloc: Global,
@@ -191,6 +212,7 @@ fn serve_by<
     spawner: &mut P,
     clock: &mut C,
     stop: &mut T,
+    keeper: &mut Y,
 ) -> u8
     requires limits { AreLimits settings.limits }
     requires untold { (told : List (Entry (SessionLeft R))) → (E.tells doors.old).told ≡ Some told
@@ -214,6 +236,11 @@ fn serve_by<
     ensures unwritten { result ≡ 5 → ⊥ }
     ensures ports { result ≡ 7 → Rose (E.tells doors.old).faults (E.tells doors.new).faults }
 {
+    let desk = match Desk::open(alloc, keeper) {
+        Ok(desk) => desk,
+        Err(KeepFail::Failed) => return 4,
+        Err(KeepFail::NoMemory) => return 6,
+    };
     match doors.make_ports(alloc, &settings) {
         Ok(()) => (),
         Err(DoorFail::Failed) => return 7,
@@ -237,13 +264,14 @@ fn serve_by<
         clock.another(),
         stop.another(),
     );
-    let served = serve(rt, alloc, doors, &mut runner);
+    let served = serve(rt, alloc, doors, &mut runner, desk, clock, keeper);
     let (their_spawner, their_clock, their_stop) = runner.into_parts();
     spawner.join_in(their_spawner);
     clock.join_in(their_clock);
     stop.join_in(their_stop);
     match served {
         Ok(()) => 0,
-        Err(NoMemory) => 6,
+        Err(KeepFail::Failed) => 4,
+        Err(KeepFail::NoMemory) => 6,
     }
 }

@@ -1,0 +1,2 @@
+use Rattle.rd_desk.proofs.Noted.{ended_adds, adds_nothing}
+use Rattle.rd_desk.proofs.session.leave_note.Goals as goal
