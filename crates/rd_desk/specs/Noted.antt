@@ -1,5 +1,5 @@
 -- What sessions leave on a desk, and what the keeper has of it in the end.
-use Rattle.std.specs.Prelude.{◌≡◌, ◌⊎◌, ℕ, List, [], ◌∷◌, ◌++◌, Option, Some, None, option_map, option_to_list, map, fold}
+use Rattle.std.specs.Prelude.{◌≡◌, ◌⊎◌, ℕ, List, [], ◌∷◌, ◌++◌, Option, Some, None, option_map, option_to_list, unwrap_or, map, fold}
 use Rattle.rd_base.specs.declared.session_note.SessionNote.{SessionNote}
 use Rattle.rd_base.specs.declared.values.Side.{Side}
 use Rattle.rd_base.specs.Outside.{Rose}
@@ -8,11 +8,15 @@ use Rattle.rd_board.specs.Notes.{latest}
 use Rattle.rd_board.specs.Calls.{Call, accepted}
 use Rattle.rd_doors.specs.Visits.{without}
 use Rattle.rd_keeper.specs.Keeping.{KeeperTold}
-use Rattle.rd_keeper.specs.Notes.{with_note}
+use Rattle.rd_keeper.specs.Notes.{with_note, greatest_id}
 use Rattle.rd_runner.specs.declared.session.Summary.{Summary}
 use Rattle.rd_desk.specs.declared.session.Begun.{Begun}
 use Rattle.rd_desk.specs.Desk.{DeskView, Start, IsAt, pending, kept_notes}
 use Rattle.rd_desk.specs.Notes.{note_of}
+
+-- where ids begin over a keeper that tells these notes
+abbrev pub start_over : KeeperTold → List SessionNote → Start
+start_over keeper notes = record { keeper = keeper; greatest = unwrap_or (greatest_id notes) 0 }
 
 -- the notes that the board of a desk accepted since it was opened are these, in this order
 pub record HasNoted (start : Start) (notes : List SessionNote) (desk : DeskView) (keeper : KeeperTold) : Type 0 where

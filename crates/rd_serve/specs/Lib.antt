@@ -3,5 +3,5 @@ pub mod Counting
 pub mod Sessions
 pub mod Crossing
 pub mod Notes
-pub mod Noting
 pub mod Operators
+pub mod Noting

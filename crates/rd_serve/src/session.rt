@@ -17,6 +17,9 @@ use std::sync::{Arc, Wait};
 use std::thread;
 use std::thread::{Promise, PromisedHandle, Threads};
 
+/// How many sessions run at once.
+pub(crate) const SESSIONS: usize = 32;
+
 /// What a session's thread gives: what came of the session, and who ran it.
 #[derive(Drop)]
 pub struct Served<S, K, P: Spawner, C: Clock, T: Stopper, R: Wait + Threads + Copy> {

@@ -1,4 +1,4 @@
-ghost use Rattle.std.specs.Prelude.{◌≡◌, ◌≤◌, ℕ, [], List, map, Some, None, Ok, Err, string_bytes, IfOk, IfErr, true, false};
+ghost use Rattle.std.specs.Prelude.{◌≡◌, ◌≤◌, ◌⊎◌, ℕ, [], List, map, Some, None, Ok, Err, string_bytes, IfOk, IfErr, true, false};
 ghost use Rattle.rd_base.specs.Limits.{AreLimits};
 ghost use Rattle.rd_base.specs.Outside.{HoldsPrefix, NamedFile, Rose, StaysOpen, StaysRead, held_with};
 ghost use Rattle.rd_conf.specs.declared.settings.Settings.{Settings};
@@ -8,6 +8,7 @@ ghost use Rattle.rd_runner.specs.Runs.{setup_of};
 ghost use Rattle.rd_run_session.specs.CameTo.{CameTo};
 ghost use Rattle.rd_run_session.specs.declared.left.SessionLeft.{SessionLeft};
 ghost use Rattle.rd_serve.specs.Counting.{EachRun, IsWithin, times_stopped, times_unstarted};
+ghost use Rattle.rd_serve.specs.Operators.{AllNoted};
 ghost use Rattle.rd_serve.specs.Serving.{IsServed, times_given, times_ended};
 ghost use Rattle.rddr.specs.Outcome.{Outcome};
 ghost use Rattle.rddr.specs.Serving.{served_by, served_file, with_ports, missing_port};
@@ -31,9 +32,10 @@ use std::thread::Threads;
 /// Answers the words `run SETTINGS` behind the program's name, and gives the status: serves by the settings of that file
 /// until the doors are over, or prints why not. Past such a refusal it writes nothing.
 ///
-/// The status is 0 where the doors are over and all sessions have ended; 2 for other words; 3 where the file is too long,
-/// isn't settings, or lacks a port that serving requires; 4 where it couldn't be read; 5 where the output failed; 6 where
-/// memory ran out; 7 where a port couldn't be had.
+/// The status is 0 where the doors are over, all sessions have ended, and the notes of all were put to the keeper; 2 for
+/// other words; 3 where the file is too long, isn't settings, or lacks a port that serving requires; 4 where it couldn't be
+/// read, or the keeper failed before it served or as it ended; 5 where the output failed; 6 where memory ran out; 7 where a
+/// port couldn't be had.
 pub fn run_main<
     F: Files,
     K: Sink,
@@ -88,7 +90,13 @@ pub fn run_main<
         → (F.tells files.old).files ≡ Some all
         → served_by (map string_bytes words.now) all ≡ Ok settings
         → (K.tells out.new).held ≡ (K.tells out.old).held }
-    ensures four { result ≡ 4 → Rose (F.tells files.old).faults (F.tells files.new).faults }
+    ensures notes { result ≡ 0 → (all : List NamedFile) (settings : Settings)
+        (told : List (Entry (SessionLeft R))) → (F.tells files.old).files ≡ Some all
+        → served_by (map string_bytes words.now) all ≡ Ok settings
+        → (E.tells doors.new).told ≡ Some told
+        → AllNoted (setup_of settings) told (Y.tells keeper.old) (Y.tells keeper.new) }
+    ensures four { result ≡ 4 → Rose (F.tells files.old).faults (F.tells files.new).faults
+        ⊎ Rose (Y.tells keeper.old).faults (Y.tells keeper.new).faults }
     ensures five { result ≡ 5 → Rose (K.tells out.old).faults (K.tells out.new).faults }
     ensures seven { result ≡ 7 → Rose (E.tells doors.old).faults (E.tells doors.new).faults }
     ensures reads { StaysRead (F.tells files.old) (F.tells files.new) }
@@ -195,8 +203,8 @@ fn missing_port(ports: &Ports) -> Option<Key>
     }
 }
 
-/// Serves by these settings until the doors are over, and gives the status: 0 where they are, 6 where memory ran out, 7
-/// where the ports couldn't be made.
+/// Serves by these settings until the doors are over, and gives the status: 0 where they are, 4 where the keeper failed, 6
+/// where memory ran out, 7 where the ports couldn't be made.
 fn serve_by<
     P: Spawner + Send + 'static,
     C: Clock + Send + 'static,
@@ -232,7 +240,10 @@ fn serve_by<
         → EachRun (IsWithin (C.tells clock.new).span) told }
     ensures over { result ≡ 0 → (E.tells doors.new).is_over ≡ true }
     ensures out { result ≡ 0 → (E.tells doors.new).out ≡ [] }
-    ensures unread { result ≡ 4 → ⊥ }
+    ensures notes { result ≡ 0 → (told : List (Entry (SessionLeft R)))
+        → (E.tells doors.new).told ≡ Some told
+        → AllNoted (setup_of settings) told (Y.tells keeper.old) (Y.tells keeper.new) }
+    ensures unkept { result ≡ 4 → Rose (Y.tells keeper.old).faults (Y.tells keeper.new).faults }
     ensures unwritten { result ≡ 5 → ⊥ }
     ensures ports { result ≡ 7 → Rose (E.tells doors.old).faults (E.tells doors.new).faults }
 {
