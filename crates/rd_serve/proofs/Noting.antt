@@ -19,6 +19,7 @@ use Rattle.rd_board.specs.Calls.{accepted}
 use Rattle.rd_operator.specs.Calls.{Operates}
 use Rattle.rd_operator.specs.Replies.{StaysKept}
 use Rattle.rd_runner.specs.Runs.{Setup}
+use Rattle.rd_runner.specs.declared.session.Summary.{Summary}
 use Rattle.rd_run_session.specs.declared.left.SessionLeft.{SessionLeft}
 use Rattle.rd_run_session.specs.Dialects.{dialect_on}
 use Rattle.rd_run_session.specs.Left.{summary_of}
@@ -81,6 +82,10 @@ placed_more place side ends t more p = record {
   counts = p.counts;
 }
 
+-- what a session leaves that has this id, or none
+abbrev left_by : Side → ℕ → ℕ → ℕ → Summary → Option ℕ → List SessionNote
+left_by side dialect began ended summary id = option_to_list (option_map (λ i. note_of i side dialect began ended summary) id)
+
 -- ---- pairs
 
 pub pairs_kept : {A B : Type 0} (P Q : A → B → Type 0) → ((x : A) (y : B) → P x y → Q x y) → (xs : List A) (ys : List B) → Pairs P xs ys → Pairs Q xs ys
@@ -100,7 +105,7 @@ pairs_snoc P (w ∷ xs) (z ∷ ys) x y all last = (all.0, pairs_snoc P xs ys x y
 pub begun_kept : {L : Type 0} (start : Start) (d d' : DoorsTold L) (id : Option ℕ) (side : Side) (ends : EndsTold) → KeepsTold d d' → IsBegun start d id side ends → IsBegun start d' id side ends
 begun_kept start d d' id side ends keeps begun t is ids =
     let goes = keeps t is in
-    let had = begun goes.was goes.had (ids_before start goes.was goes.more (subst (HasIds start) (sym goes.is) ids)) in
+    let had = begun goes.was goes.had (ids_before start goes.was goes.more (subst (λ t. HasIds start t) (sym goes.is) ids)) in
     record {
       place = had.place;
       is = had.is;
@@ -178,10 +183,10 @@ module _ {R : Type 0} (start : Start) (setup : Setup) where
       told_more (λ t. HasIds start t → HasId start (Some (desk.board.drawn + 1)) side ends t) (Gave side ends) d.told t (sym told ∙ is) (λ before was ids.
       let had = n.drawn before was (ids_before start before (Gave side ends ∷ []) ids) in
       let least = n.has.at.drawn in
-      let place = desk.board.drawn + 1 - start.greatest in
+      let same : desk.board.drawn + 1 ≡ start.greatest + (desk.board.drawn + 1 - start.greatest) = omega arith in
       record {
         place = desk.board.drawn + 1 - start.greatest;
-        is = ap Some (omega arith);
+        is = ap Some same;
         placed = record { before = before; after = []; is = refl; counts = omega arith };
       }) ids
 
@@ -201,7 +206,7 @@ module _ {R : Type 0} (start : Start) (setup : Setup) where
       let drawn = n.has.at.drawn in
       let given = n.drawn t is ids in
       let same = same_length t (runs t) n.notes (n.of_runs t is ids) in
-      let as_many = sym (length-map (accepted n.has.calls) (λ m. m.note)) ∙ ap length n.has.are in
+      let as_many : length (accepted n.has.calls) ≡ length n.notes = sym (length-map (accepted n.has.calls) (λ m. m.note)) ∙ ap length n.has.are in
       omega arith
 
   pub noted_operator : (d d' d'' : DoorsTold (SessionLeft R)) (source source' : SourceTold) (sink sink' : SinkTold) (end : OperatorEnd) (desk : DeskView) (keeper keeper' : KeeperTold)
@@ -314,18 +319,18 @@ module _ {R : Type 0} (start : Start) (setup : Setup) where
 
   pub noted_back : (d d' : DoorsTold (SessionLeft R)) (desk desk' : DeskView) (id : Option ℕ) (side : Side) (ends : EndsTold) (began ended : ℕ) (run : RunTold (SessionLeft R))
       → d'.told ≡ entries_with (Some (CameBack run)) d.told → ends.number ≡ run.number → desk'.board.drawn ≡ desk.board.drawn
-      → Adds (option_to_list (option_map (λ i. note_of i side (dialect_number (dialect_on side setup)) began ended (summary_of run.left.report)) id)) desk desk'
+      → Adds (left_by side (dialect_number (dialect_on side setup)) began ended (summary_of run.left.report) id) desk desk'
       → (keeper : KeeperTold) (w : ℕ) → AreNoted start setup d desk keeper w → IsBegun start d id side ends → AreNoted start setup d' desk' keeper w
   noted_back d d' desk desk' id side ends began ended run told number drawn adds keeper w n begun = record {
-    notes = n.notes ++ left id;
+    notes = n.notes ++ left_by side (dialect_number (dialect_on side setup)) began ended (summary_of run.left.report) id;
     has = adds start n.notes keeper n.has;
-    of_runs = λ t is ids. told_more (λ t. HasIds start t → AreNotesOf setup start t (n.notes ++ left id)) (CameBack run) d.told t (sym told ∙ is) (λ before was ids.
+    of_runs = λ t is ids. told_more (λ t. HasIds start t → AreNotesOf setup start t (n.notes ++ left_by side (dialect_number (dialect_on side setup)) began ended (summary_of run.left.report) id)) (CameBack run) d.told t (sym told ∙ is) (λ before was ids.
       let fewer = ids_before start before (CameBack run ∷ []) ids in
       let has = begun before was fewer in
-      let one : left id ≡ note (start.greatest + has.place) ∷ [] = ap left has.is in
-      subst (λ rs. Pairs (IsNoteOf setup start.greatest (before ++ CameBack run ∷ [])) rs (n.notes ++ left id)) (sym (runs-append before (CameBack run ∷ [])))
+      let one : left_by side (dialect_number (dialect_on side setup)) began ended (summary_of run.left.report) id ≡ note_of (start.greatest + has.place) side (dialect_number (dialect_on side setup)) began ended (summary_of run.left.report) ∷ [] = ap (left_by side (dialect_number (dialect_on side setup)) began ended (summary_of run.left.report)) has.is in
+      subst (λ rs. Pairs (IsNoteOf setup start.greatest (before ++ CameBack run ∷ [])) rs (n.notes ++ left_by side (dialect_number (dialect_on side setup)) began ended (summary_of run.left.report) id)) (sym (runs-append before (CameBack run ∷ [])))
       (subst (λ l. Pairs (IsNoteOf setup start.greatest (before ++ CameBack run ∷ [])) (runs before ++ run ∷ []) (n.notes ++ l)) (sym one)
-      (pairs_snoc (IsNoteOf setup start.greatest (before ++ CameBack run ∷ [])) (runs before) n.notes run (note (start.greatest + has.place))
+      (pairs_snoc (IsNoteOf setup start.greatest (before ++ CameBack run ∷ [])) (runs before) n.notes run (note_of (start.greatest + has.place) side (dialect_number (dialect_on side setup)) began ended (summary_of run.left.report))
       (notes_kept before (CameBack run ∷ []) (runs before) n.notes (n.of_runs before was fewer))
       (record {
         side = side;
@@ -345,12 +350,6 @@ module _ {R : Type 0} (start : Start) (setup : Setup) where
     operators = λ t is ids. told_more (λ t. HasIds start t → AllAnswered setup start t) (CameBack run) d.told t (sym told ∙ is) (λ before was ids.
       all_more before (CameBack run) (n.operators before was (ids_before start before (CameBack run ∷ []) ids)) tt refl) ids;
   }
-    where
-      note : ℕ → SessionNote
-      note i = note_of i side (dialect_number (dialect_on side setup)) began ended (summary_of run.left.report)
-
-      left : Option ℕ → List SessionNote
-      left o = option_to_list (option_map (λ i. note_of i side (dialect_number (dialect_on side setup)) began ended (summary_of run.left.report)) o)
 
   -- ---- notes are put
 

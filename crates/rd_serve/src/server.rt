@@ -19,7 +19,8 @@ ghost use Rattle.rd_operator.specs.Replies.{StaysKept};
 ghost use Rattle.rd_run_session.specs.Dialects.{dialect_on};
 ghost use Rattle.rd_run_session.specs.Left.{summary_of};
 
-use crate::session::{Served, Session, begin};
+use crate::joining::{give_back, hand_back, join_all, join_ended, note_run};
+use crate::session::{SESSIONS, Session, begin};
 use rd_base::{Clock, NoMemory, Side, Sink, Source, Stopper};
 use rd_desk::{Begun, Desk, begin_session, dialect_number, end_session};
 use rd_doors::{Doors, Ends, Visit};
