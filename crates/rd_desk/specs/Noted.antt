@@ -1,5 +1,5 @@
 -- What sessions leave on a desk, and what the keeper has of it in the end.
-use Rattle.std.specs.Prelude.{◌≡◌, ◌⊎◌, ℕ, List, [], ◌∷◌, ◌++◌, Option, Some, None, option_map, option_to_list, unwrap_or, map, fold}
+use Rattle.std.specs.Prelude.{◌≡◌, ◌⊎◌, ℕ, List, [], ◌++◌, Option, Some, None, option_map, option_to_list, unwrap_or, map, fold}
 use Rattle.rd_base.specs.declared.session_note.SessionNote.{SessionNote}
 use Rattle.rd_base.specs.declared.values.Side.{Side}
 use Rattle.rd_base.specs.Outside.{Rose}

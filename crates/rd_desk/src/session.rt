@@ -54,14 +54,7 @@ pub fn end_session<C: Clock>(
 }
 
 /// A session ended then, and leaves a note where it has an id.
-fn leave_note(
-    desk: &mut Desk,
-    begun: Begun,
-    side: Side,
-    dialect: u8,
-    ended: u64,
-    summary: &Summary,
-)
+fn leave_note(desk: &mut Desk, begun: Begun, side: Side, dialect: u8, ended: u64, summary: &Summary)
     requires live { IfSome begun.id (λ id. Holds id desk.old.ids) }
     requires range { IfSome begun.id (λ id. id ≤ 2 ^ 63 - 1) }
     ensures note { Adds (note_left begun side dialect ended summary.now) desk.old desk.new }

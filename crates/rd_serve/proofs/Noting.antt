@@ -396,3 +396,8 @@ module _ {R : Type 0} (start : Start) (setup : Setup) where
 pub on_both : {A E : Type 0} (result : Result A E) (P Q X : Type 0) → (P → Q → X) → OnOk result P → OnOk result Q → OnOk result X
 on_both (Ok a) P Q X both p q = both p q
 on_both (Err e) P Q X both p q = tt
+
+-- what holds whatever the answer
+pub on_ok : {A E : Type 0} (result : Result A E) (X : Type 0) → X → OnOk result X
+on_ok (Ok a) X x = x
+on_ok (Err e) X x = tt

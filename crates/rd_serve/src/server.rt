@@ -406,6 +406,61 @@ fn serve_visit<
     }
 }
 
+/// Serves visits until the doors are over. Notes are put behind each turn.
+fn serve_visits<
+    P: Spawner + Send + 'static,
+    C: Clock + Send + 'static,
+    T: Stopper + Send + 'static,
+    R: Wait + Threads + Copy + Send + Sync + 'static,
+    E: Doors<SessionLeft<R>>,
+    Y: Keeper,
+>(
+    rt: R,
+    alloc: Global,
+    doors: &mut E,
+    runner: &mut SessionRunner<P, C, T, R>,
+    first: &Snapshot<SessionRunner<P, C, T, R>>,
+    sessions: &mut Vec<Session<E::Give, E::Take, P, C, T, R>>,
+    flags: &mut Vec<Arc<AtomicBool, Global>>,
+    desk: &mut Desk,
+    clock: &mut C,
+    keeper: &mut Y,
+)
+    requires tells { Tells (CameTo E.Give) first.now.value.setup (E.tells doors.old) }
+    requires counts { CountedBy first.now.value
+        runner.old (E.tells doors.old) }
+    requires out { AreOut E.Give.tells E.Take.tells first.now.value.setup
+        (E.tells doors.old) None sessions.old.items }
+    requires room { HasRoom sessions.old flags.old }
+    requires live { AreLive desk.old.ids sessions.old.items }
+    ensures tells { Tells (CameTo E.Give) first.now.value.setup (E.tells doors.new) }
+    ensures counts { CountedBy first.now.value
+        runner.new (E.tells doors.new) }
+    ensures out { AreOut E.Give.tells E.Take.tells first.now.value.setup
+        (E.tells doors.new) None sessions.new.items }
+    ensures over { (E.tells doors.new).is_over ≡ true }
+    ensures room { HasRoom sessions.new flags.new }
+    ensures live { AreLive desk.new.ids sessions.new.items }
+    ensures notes { (start : Start) → AreKept start first.now.value.setup (E.tells doors.old)
+        desk.old (Y.tells keeper.old) 0 E.Give.tells E.Take.tells sessions.old.items
+        → AreKept start first.now.value.setup (E.tells doors.new)
+        desk.new (Y.tells keeper.new) 0 E.Give.tells E.Take.tells sessions.new.items }
+    ensures faults { (Y.tells keeper.old).faults ≤ (Y.tells keeper.new).faults }
+{
+    for _ in rt.forever() {
+        let over = serve_visit(
+            rt, alloc, doors, runner, first, sessions, flags, desk, clock, keeper,
+        );
+        if over {
+            return;
+        }
+        join_ended(
+            rt, doors, runner, first, None, sessions, flags, desk, clock,
+        );
+        let _put = desk.keep_some(keeper);
+    }
+}
+
 /// As many flags as sessions may run.
 fn make_flags(alloc: Global) -> Result<Vec<Arc<AtomicBool, Global>>, NoMemory>
     ensures count { IfOk result (λ flags. vec_len flags ≡ 32) }
@@ -473,35 +528,18 @@ pub fn serve<
     let mut flags = make_flags(alloc)?;
     let mut desk = desk;
     let first = Snapshot::of(runner);
-    for _ in rt.forever() {
-        let over = serve_visit(
-            rt,
-            alloc,
-            doors,
-            runner,
-            &first,
-            &mut sessions,
-            &mut flags,
-            &mut desk,
-            clock,
-            keeper,
-        );
-        if over {
-            break;
-        }
-        join_ended(
-            rt,
-            doors,
-            runner,
-            &first,
-            None,
-            &mut sessions,
-            &mut flags,
-            &mut desk,
-            clock,
-        );
-        let _put = desk.keep_some(keeper);
-    }
+    serve_visits(
+        rt,
+        alloc,
+        doors,
+        runner,
+        &first,
+        &mut sessions,
+        &mut flags,
+        &mut desk,
+        clock,
+        keeper,
+    );
     join_all(
         rt,
         doors,

@@ -1,4 +1,4 @@
-use Rattle.std.proofs.Common.{ℕ, [], ◌∷◌, Some, sym, subst}
+use Rattle.std.proofs.Common.{ℕ, [], ◌∷◌, sym, subst}
 use Rattle.std.specs.Prelude.{Option, option_map, option_to_list}
 use Rattle.rd_desk.specs.Notes.{note_of}
 use Rattle.rd_desk.specs.Noted.{Adds}

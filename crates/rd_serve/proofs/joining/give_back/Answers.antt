@@ -16,8 +16,8 @@ returns-clause-counts g c =
     c.requires.kept.yeses c.requires.kept.refusals c.requires.kept.span
 
 pub returns-clause-notes : goal.returns-clause-notes
-returns-clause-notes g c =
-    noted_back _ c.args.first.now.value.setup (g.E.Doors.tells c.args.doors.now) (g.E.Doors.tells c.hand_back.new.doors) c.args.desk.now c.note_run.new.desk c.args.begun.id c.args.side
-    (ends_told g.E.Give.Source.tells g.E.Take.Sink.tells c.args.ends.value) c.args.begun.at c.note_run.result _ c.hand_back.ensures.told c.requires.number c.note_run.ensures.drawn
-    (subst (λ (s : Setup). Adds (note_left c.args.begun c.args.side (dialect_number (dialect_on c.args.side s)) c.note_run.result (summary_of c.args.served.ended.run.left.report)) c.args.desk.now c.note_run.new.desk)
-    (c.take_in_runner.ensures.setup ∙ c.requires.counts.setup) c.note_run.ensures.note)
+returns-clause-notes g c start =
+    noted_back start c.args.first.now.value.setup (g.E.Doors.tells c.args.doors.now) (g.E.Doors.tells c.hand_back.new.doors) c.args.desk.now c.note_run-ended_at.new.desk c.args.begun.id c.args.side
+    (ends_told g.E.Give.Source.tells g.E.Take.Sink.tells c.args.ends.value) c.args.begun.at c.note_run-ended_at.result _ c.hand_back.ensures.told c.requires.number c.note_run-ended_at.ensures.drawn
+    (subst (λ (s : Setup). Adds (note_left c.args.begun c.args.side (dialect_number (dialect_on c.args.side s)) c.note_run-ended_at.result (summary_of c.args.served.ended.run.left.report)) c.args.desk.now c.note_run-ended_at.new.desk)
+    (c.take_in_runner.ensures.setup ∙ c.requires.counts.setup) c.note_run-ended_at.ensures.note)

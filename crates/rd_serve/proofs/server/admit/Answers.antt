@@ -10,7 +10,7 @@ use Rattle.rd_serve.proofs.Outs.{waiting_holds, waiting_ended, waiting_begun}
 use Rattle.rd_serve.proofs.server.admit.Goals as goal
 
 pub begin_session-begun-requires : goal.begin_session-begun-requires
-begin_session-begun-requires g c κs within =
+begin_session-begun-requires g c =
     let few = live_few c.args.desk.now.ids c.args.sessions.now.items c.requires.live in
     let len = c.args.sessions.now.ok.0 in
     let count = c.requires.count in

@@ -1,28 +1,25 @@
-use Rattle.std.proofs.Common.{◌≤◌, [], sym, subst, ap, ◌∙◌, arith, append-nil}
+use Rattle.std.proofs.Common.{◌≤◌, [], sym, ◌∙◌, arith}
 use Rattle.rd_desk.proofs.At.{rose_sooner}
 use Rattle.rd_run_session.specs.CameTo.{CameTo}
-use Rattle.rd_serve.specs.Noting.{AreLive}
-use Rattle.rd_serve.proofs.Live.{kept_on}
-use Rattle.rd_serve.proofs.Noting.{noted_kept, noted_ends, on_both}
+use Rattle.rd_serve.proofs.Noting.{noted_first, noted_ends, on_both, on_ok}
 use Rattle.rd_serve.proofs.Times.{all_ended}
 use Rattle.rd_serve.proofs.server.serve.Goals as goal
 
-pub loop-preserved : goal.loop-preserved
-loop-preserved g c = (
-  c.join_ended.ensures.tells,
-  c.join_ended.ensures.counts,
-  c.join_ended.ensures.out,
-  c.join_ended.ensures.room,
-  c.loop.invariant.4,
-  subst (λ ids. AreLive ids c.join_ended.new.sessions.items) (sym c.keep_some-_put.ensures.keeps.ids) c.join_ended.ensures.live,
-  (λ start at.
-    let kept = c.join_ended.ensures.notes start (g.Y.Keeper.tells c.serve_visit-over.new.keeper) 0 (c.serve_visit-over.ensures.notes start (c.loop.invariant.6 start at)) in
-    kept_on g.E.Give.Source.tells g.E.Take.Sink.tells start c.loop.first.value.setup (g.E.Doors.tells c.join_ended.new.doors) (g.E.Doors.tells c.join_ended.new.doors) c.join_ended.new.desk c.keep_some-_put.new.self (g.Y.Keeper.tells c.serve_visit-over.new.keeper) (g.Y.Keeper.tells c.keep_some-_put.new.keeper) 0 0 c.join_ended.new.sessions.items
-    (λ t is. record { was = t; more = []; had = is; is = append-nil t })
-    (noted_kept start c.loop.first.value.setup 16 (g.E.Doors.tells c.join_ended.new.doors) c.join_ended.new.desk c.keep_some-_put.new.self (g.Y.Keeper.tells c.serve_visit-over.new.keeper) (g.Y.Keeper.tells c.keep_some-_put.new.keeper) 0 c.keep_some-_put.ensures.keeps kept.noted) kept),
-  (let one = c.loop.invariant.7 in let two = c.serve_visit-over.ensures.faults in let three = c.keep_some-_put.ensures.keeps.faults in omega arith),
-)
-
 pub returns-clause-ended : goal.returns-clause-ended
-returns-clause-ended g c told is n =
-    all_ended (CameTo g.row.E-Give.Denot) _ n told (c.join_all.ensures.tells.served told is) (sym (c.join_all.ensures.tells.out told is) ∙ c.join_all.ensures.out)
+returns-clause-ended g c =
+    on_ok c.keep_all.result _ (λ told is n. all_ended (CameTo g.row.E-Give.Denot) _ n told (c.join_all.ensures.tells.served told is) (sym (c.join_all.ensures.tells.out told is) ∙ c.join_all.ensures.out))
+
+pub returns-clause-notes : goal.returns-clause-notes
+returns-clause-notes g c =
+    on_both c.keep_all.result _ _ _ (λ none unkept start told at is ids.
+    let kept = c.join_all.ensures.notes start (g.Y.Keeper.tells c.serve_visits.new.keeper) 0 (c.serve_visits.ensures.notes start (record {
+      noted = noted_first start _ (g.E.Doors.tells c.args.doors.now) c.args.desk (g.Y.Keeper.tells c.args.keeper.now) at c.requires.untold;
+      begun = tt;
+    })) in
+    noted_ends start _ (g.E.Doors.tells c.join_all.new.doors) c.join_all.new.desk c.keep_all.new.self (g.Y.Keeper.tells c.serve_visits.new.keeper) (g.Y.Keeper.tells c.keep_all.new.keeper)
+    kept.noted c.keep_all.ensures.keeps none unkept told is ids) c.keep_all.ensures.all c.keep_all.ensures.unkept
+
+pub returns-clause-four : goal.returns-clause-four
+returns-clause-four g c failed =
+    rose_sooner (g.Y.Keeper.tells c.args.keeper.now).faults (g.Y.Keeper.tells c.serve_visits.new.keeper).faults (g.Y.Keeper.tells c.keep_all.new.keeper).faults
+    c.serve_visits.ensures.faults (c.keep_all.ensures.failed failed)

@@ -19,8 +19,8 @@ hand_back-requires-clause-given g c κs within =
     λ told is. subst (λ e. Has (Gave c.args.side (ends_told g.E.Give.Source.tells g.E.Take.Sink.tells e)) told) (sym c.of-handed.ensures) (c.requires.given told is)
 
 pub returns-clause-notes : goal.returns-clause-notes
-returns-clause-notes g c =
-    noted_back _ c.args.first.now.value.setup (g.E.Doors.tells c.args.doors.now) (g.E.Doors.tells c.hand_back.new.doors) c.args.desk.now c.note_run.new.desk c.args.begun.id c.args.side
-    (ends_told g.E.Give.Source.tells g.E.Take.Sink.tells c.args.ends) c.args.begun.at c.note_run.result _ c.hand_back.ensures.told refl c.note_run.ensures.drawn
-    (subst (λ (s : Setup). Adds (note_left c.args.begun c.args.side (dialect_number (dialect_on c.args.side s)) c.note_run.result (summary_of c.run_visit-ended.result.run.left.report)) c.args.desk.now c.note_run.new.desk)
-    (c.run_visit-ended.ensures.counts.setup ∙ c.requires.counts.setup) c.note_run.ensures.note)
+returns-clause-notes g c start =
+    noted_back start c.args.first.now.value.setup (g.E.Doors.tells c.args.doors.now) (g.E.Doors.tells c.hand_back.new.doors) c.args.desk.now c.note_run-ended_at.new.desk c.args.begun.id c.args.side
+    (ends_told g.E.Give.Source.tells g.E.Take.Sink.tells c.args.ends) c.args.begun.at c.note_run-ended_at.result _ c.hand_back.ensures.told refl c.note_run-ended_at.ensures.drawn
+    (subst (λ (s : Setup). Adds (note_left c.args.begun c.args.side (dialect_number (dialect_on c.args.side s)) c.note_run-ended_at.result (summary_of c.run_visit-ended.result.run.left.report)) c.args.desk.now c.note_run-ended_at.new.desk)
+    (c.run_visit-ended.ensures.counts.setup ∙ c.requires.counts.setup) c.note_run-ended_at.ensures.note)

@@ -85,7 +85,7 @@ returns-in-Operator-clause-notes g c start kept =
     (keeps_more (g.E.Doors.tells c.args.doors.now) (g.E.Doors.tells c.next_visit.new.self) _ c.in-Operator.ensures.told)
     (keeps_more (g.E.Doors.tells c.next_visit.new.self) (g.E.Doors.tells c.answer.new.doors) _ c.answer.ensures.answers.back.told))
     (noted_operator start c.args.first.now.value.setup (g.E.Doors.tells c.args.doors.now) (g.E.Doors.tells c.next_visit.new.self) (g.E.Doors.tells c.answer.new.doors)
-    (g.E.Give.Source.tells c.in-Operator.0) c.answer.ensures.answers.source_after (g.E.Take.Sink.tells c.in-Operator.1) c.answer.ensures.answers.sink_after c.answer.ensures.answers.end
+    (g.E.Give.Source.tells c.in-Operator.source) c.answer.ensures.answers.source_after (g.E.Take.Sink.tells c.in-Operator.sink) c.answer.ensures.answers.sink_after c.answer.ensures.answers.end
     c.args.desk.now (g.Y.Keeper.tells c.args.keeper.now) (g.Y.Keeper.tells c.answer.new.keeper) c.in-Operator.ensures.told c.answer.ensures.answers.back.told c.answer.ensures.answers.answers c.answer.ensures.kept
     (λ t was. all_accounted (CameTo g.row.E-Give.Denot) c.args.first.now.value.setup t (c.requires.tells.served t was)) kept.noted) kept
 
