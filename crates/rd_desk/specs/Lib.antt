@@ -1,2 +1,3 @@
 pub mod Notes
 pub mod Desk
+pub mod Noted

@@ -4,9 +4,11 @@
 
 mod desk;
 mod note;
+mod session;
 
 pub use desk::Desk;
 pub use note::{dialect_number, session_note};
+pub use session::{Begun, begin_session, end_session};
 
 #[cfg(test)]
 mod tests;

@@ -286,6 +286,19 @@ pub fn run_visit<
     }
 }
 
+/// The dialect in which it runs sessions of this side.
+pub fn dialect_of<P: Spawner, C: Clock, Q: Stopper, R: Wait + Threads + Copy>(
+    runner: &SessionRunner<P, C, Q, R>,
+    side: Side,
+) -> DialectName
+    ensures { result ≡ dialect_on side runner.now.setup }
+{
+    match side {
+        Side::Incoming => runner.incoming,
+        Side::Outgoing => runner.outgoing,
+    }
+}
+
 fn dialect_on(side: Side, incoming: DialectName, outgoing: DialectName) -> DialectName
     ensures { (setup : Setup) → setup.incoming ≡ incoming → setup.outgoing ≡ outgoing
         → result ≡ dialect_on side setup }

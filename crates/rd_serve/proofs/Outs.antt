@@ -12,7 +12,7 @@ use Rattle.rd_serve.specs.Serving.{one_if}
 use Rattle.rd_serve.specs.Sessions.{AreOut, IsOut, Keeps, KeepsTold, Each, times}
 use Rattle.rd_serve.specs.declared.session.Served.{Served}
 use Rattle.rd_serve.specs.declared.session.Session.{Session}
-use Rattle.rd_serve.proofs.Telling.{some_is}
+use Rattle.rd_serve.proofs.Telling.{some_is, keeps_has}
 use Rattle.rd_serve.proofs.Times.{times_snoc, times_without, length_without, holds_of_times, same_times}
 
 pub times_split : {A : Type 0} (f : A → ℕ) (n : ℕ) (xs : List A) (i : ℕ) (d : A) → i < length xs
@@ -54,7 +54,7 @@ module _ {S K P C T B R : Type 0} (source : S → SourceTold) (sink : K → Sink
   pub kept : (d d' : DoorsTold (SessionLeft R)) (ss : List (Session S K P C T B R)) → KeepsTold d d'
       → Each (λ s. IsOut source sink setup d s) ss → Each (λ s. IsOut source sink setup d' s) ss
   kept d d' ss keeps all = all_kept (λ s. IsOut source sink setup d s) (λ s. IsOut source sink setup d' s)
-      (λ s is. record { held_to = is.held_to; side = is.side; ends = is.ends; number = is.number; fresh = is.fresh; given = keeps _ is.given }) ss all
+      (λ s is. record { held_to = is.held_to; side = is.side; ends = is.ends; number = is.number; fresh = is.fresh; given = keeps_has d d' _ keeps is.given }) ss all
 
   pub out_holds : (d : DoorsTold (SessionLeft R)) (w : Option ℕ) (ss : List (Session S K P C T B R)) (i : ℕ) (s : Session S K P C T B R)
       → AreOut source sink setup d w ss → i < length ss → s ≡ get_or ss i s → Holds s.number d.out

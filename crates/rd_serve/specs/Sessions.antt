@@ -1,5 +1,5 @@
 -- Sessions that run on threads of their own, beside what the doors tell.
-use Rattle.std.specs.Prelude.{◌≡◌, ℕ, ◌==◌, ◌+◌, ◌≤◌, List, [], ◌∷◌, length, map, Option, Some, None, Vec, vec_len, vec_capacity}
+use Rattle.std.specs.Prelude.{◌≡◌, ℕ, ◌==◌, ◌+◌, ◌≤◌, List, [], ◌∷◌, ◌++◌, length, map, Option, Some, None, Vec, vec_len, vec_capacity}
 use Rattle.rd_base.specs.Outside.{SinkTold}
 use Rattle.rd_base.specs.Sources.{SourceTold}
 use Rattle.rd_base.specs.declared.values.Side.{Side}
@@ -58,9 +58,16 @@ module _ {S K P C T B R : Type 0} (source : S → SourceTold) (sink : K → Sink
     pub same : (n : ℕ) → times n doors.out ≡ times_waits n waiting + times n (map (λ s. s.number) sessions)
     pub count : length doors.out ≡ waits waiting + length sessions
 
+-- what is told now is what was told before, and maybe more
+pub record Goes {L : Type 0} (before : Option (List (Entry L))) (told : List (Entry L)) : Type 0 where
+  pub was : List (Entry L)
+  pub more : List (Entry L)
+  pub had : before ≡ Some was
+  pub is : was ++ more ≡ told
+
 -- what was told is still told
 abbrev pub KeepsTold : {L : Type 0} → DoorsTold L → DoorsTold L → Type 0
-KeepsTold {L} before after = (e : Entry L) → ((told : List (Entry L)) → before.told ≡ Some told → Has e told) → (told : List (Entry L)) → after.told ≡ Some told → Has e told
+KeepsTold {L} before after = (told : List (Entry L)) → after.told ≡ Some told → Goes before.told told
 
 -- 32 flags, each of a session or free
 pub record HasRoom {X A Y B : Type 0} (sessions : Vec X A) (flags : Vec Y B) : Type 0 where

@@ -5,6 +5,7 @@ ghost use Rattle.rd_serve.specs.Crossing.{Crosses};
 ghost use Rattle.rd_serve.specs.Sessions.{Keeps};
 
 use rd_base::{Clock, Side, Sink, Source, Stopper};
+use rd_desk::Begun;
 use rd_doors::Ends;
 use rd_lent_book::LentBook;
 use rd_run_session::{SessionLeft, SessionRunner, run_visit};
@@ -16,6 +17,9 @@ use std::sync::atomic::{AtomicBool, Ordering};
 use std::sync::{Arc, Wait};
 use std::thread;
 use std::thread::{Promise, PromisedHandle, Threads};
+
+/// How many sessions run at once.
+pub(crate) const SESSIONS: usize = 32;
 
 /// What a session's thread gives: what came of the session, and who ran it.
 #[derive(Drop)]
@@ -59,6 +63,7 @@ pub struct Session<
     pub number: u64,
     pub side: Side,
     pub ends: Snapshot<Ends<S, K>>,
+    pub begun: Begun,
     pub handle: PromisedHandle<Served<S, K, P, C, T, B, R>, Handed<S, K, P, C, T, B, R>>,
     pub flag: Arc<AtomicBool, Global>,
 }
