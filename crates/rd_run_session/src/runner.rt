@@ -67,7 +67,13 @@ fn copy_of(alloc: Global, rules: &NameRules) -> Result<NameRules, NoMemory>
     })
 }
 
-impl<P: Spawner, C: Clock, Q: Stopper, B: LentBook, R: Wait + Threads + Copy> SessionRunner<P, C, Q, B, R> {
+impl<P: Spawner, C: Clock, Q: Stopper, B: LentBook, R: Wait + Threads + Copy> SessionRunner<
+    P,
+    C,
+    Q,
+    B,
+    R,
+> {
     /// A runner by these limits, dialects and rules of names, whose spawner and stopper have counted nothing yet. Sessions
     /// of clients ask and tell the book.
     pub fn new(
@@ -265,11 +271,15 @@ pub fn run_visit<
     } = runner;
     match dialect_on(side, *incoming, *outgoing) {
         DialectName::Line => {
-            return run_by(*rt, alloc, Line, *limits, side, ends, spawner, clock, stop, book);
+            return run_by(
+                *rt, alloc, Line, *limits, side, ends, spawner, clock, stop, book,
+            );
         }
         DialectName::Http => match Http::new(alloc, side, rules) {
             Ok(http) => {
-                return run_by(*rt, alloc, http, *limits, side, ends, spawner, clock, stop, book);
+                return run_by(
+                    *rt, alloc, http, *limits, side, ends, spawner, clock, stop, book,
+                );
             }
             Err(_) => {
                 return run_none(alloc, *limits, side, ends);
@@ -277,7 +287,9 @@ pub fn run_visit<
         },
         DialectName::Pg => match Pg::new(alloc, side, rules) {
             Ok(pg) => {
-                return run_by(*rt, alloc, pg, *limits, side, ends, spawner, clock, stop, book);
+                return run_by(
+                    *rt, alloc, pg, *limits, side, ends, spawner, clock, stop, book,
+                );
             }
             Err(_) => {
                 return run_none(alloc, *limits, side, ends);
@@ -287,8 +299,8 @@ pub fn run_visit<
 }
 
 /// The dialect in which it runs sessions of this side.
-pub fn dialect_of<P: Spawner, C: Clock, Q: Stopper, R: Wait + Threads + Copy>(
-    runner: &SessionRunner<P, C, Q, R>,
+pub fn dialect_of<P: Spawner, C: Clock, Q: Stopper, B: LentBook, R: Wait + Threads + Copy>(
+    runner: &SessionRunner<P, C, Q, B, R>,
     side: Side,
 ) -> DialectName
     ensures { result ≡ dialect_on side runner.now.setup }
@@ -310,13 +322,9 @@ fn dialect_on(side: Side, incoming: DialectName, outgoing: DialectName) -> Diale
 }
 
 /// A further runner by the same settings, which counts from 0. None where memory runs out or no book can be lent.
-pub fn another_runner<
-    P: Spawner,
-    C: Clock,
-    Q: Stopper,
-    B: LentBook,
-    R: Wait + Threads + Copy,
->(runner: &mut SessionRunner<P, C, Q, B, R>) -> Option<SessionRunner<P, C, Q, B, R>>
+pub fn another_runner<P: Spawner, C: Clock, Q: Stopper, B: LentBook, R: Wait + Threads + Copy>(
+    runner: &mut SessionRunner<P, C, Q, B, R>,
+) -> Option<SessionRunner<P, C, Q, B, R>>
     ensures other { IfSome result (λ other. IsAnother runner.old other) }
     ensures same { runner.new ≡ runner.old }
 {

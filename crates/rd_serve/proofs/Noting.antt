@@ -155,16 +155,16 @@ module _ {R : Type 0} (start : Start) (setup : Setup) where
     notes = n.notes;
     has = n.has;
     of_runs = λ t is ids. told_more (λ t. HasIds start t → AreNotesOf setup start t n.notes) e d.told t (sym told ∙ is) (λ before was ids.
-      let same : runs (before ++ e ∷ []) ≡ runs before = runs-append before (e ∷ []) ∙ ap (λ l. runs before ++ l) none ∙ append-nil (runs before) in
-      subst (λ rs. Pairs (IsNoteOf setup start.greatest (before ++ e ∷ [])) rs n.notes) (sym same)
-      (notes_kept before (e ∷ []) (runs before) n.notes (n.of_runs before was (ids_before start before (e ∷ []) ids)))) ids;
+        let same : runs (before ++ e ∷ []) ≡ runs before = runs-append before (e ∷ []) ∙ ap (λ l. runs before ++ l) none ∙ append-nil (runs before) in
+        subst (λ rs. Pairs (IsNoteOf setup start.greatest (before ++ e ∷ [])) rs n.notes) (sym same)
+        (notes_kept before (e ∷ []) (runs before) n.notes (n.of_runs before was (ids_before start before (e ∷ []) ids)))) ids;
     drawn = λ t is ids. told_more (λ t. HasIds start t → desk.board.drawn + turned t + w' ≡ start.greatest + visits t) e d.told t (sym told ∙ is) (λ before was ids.
-      let had = n.drawn before was (ids_before start before (e ∷ []) ids) in
-      let given = visits-append before (e ∷ []) in
-      let away = turned-append before (e ∷ []) in
-      omega arith) ids;
+        let had = n.drawn before was (ids_before start before (e ∷ []) ids) in
+        let given = visits-append before (e ∷ []) in
+        let away = turned-append before (e ∷ []) in
+        omega arith) ids;
     operators = λ t is ids. told_more (λ t. HasIds start t → AllAnswered setup start t) e d.told t (sym told ∙ is) (λ before was ids.
-      all_more before (e) (n.operators before was (ids_before start before (e ∷ []) ids)) (right before) even) ids;
+        all_more before (e) (n.operators before was (ids_before start before (e ∷ []) ids)) (right before) even) ids;
   }
 
   pub noted_same : (d d' : DoorsTold (SessionLeft R)) (desk : DeskView) (keeper : KeeperTold) (w : ℕ) → d'.told ≡ d.told → AreNoted start setup d desk keeper w → AreNoted start setup d' desk keeper w
@@ -223,19 +223,19 @@ module _ {R : Type 0} (start : Start) (setup : Setup) where
     };
     of_runs = λ t is ids. twice (λ t. HasIds start t → AreNotesOf setup start t n.notes) t is (λ before was ids. of_runs before was ids) ids;
     drawn = λ t is ids. twice (λ t. HasIds start t → desk.board.drawn + turned t + 0 ≡ start.greatest + visits t) t is (λ before was ids.
-      let had = n.drawn before was (fewer before ids) in
-      let given = visits-append (before ++ GaveOperator source sink ∷ []) (CameFromOperator source' sink' end ∷ []) in
-      let away = turned-append (before ++ GaveOperator source sink ∷ []) (CameFromOperator source' sink' end ∷ []) in
-      let given' = visits-append before (GaveOperator source sink ∷ []) in
-      let away' = turned-append before (GaveOperator source sink ∷ []) in
-      omega arith) ids;
+        let had = n.drawn before was (fewer before ids) in
+        let given = visits-append (before ++ GaveOperator source sink ∷ []) (CameFromOperator source' sink' end ∷ []) in
+        let away = turned-append (before ++ GaveOperator source sink ∷ []) (CameFromOperator source' sink' end ∷ []) in
+        let given' = visits-append before (GaveOperator source sink ∷ []) in
+        let away' = turned-append before (GaveOperator source sink ∷ []) in
+        omega arith) ids;
     operators = λ t is ids. twice (λ t. HasIds start t → AllAnswered setup start t) t is (λ before was ids. operators before was ids) ids;
   }
     where
       twice : (P : List (Entry (SessionLeft R)) → Type 0) (t : List (Entry (SessionLeft R))) → d''.told ≡ Some t
           → ((before : List (Entry (SessionLeft R))) → d.told ≡ Some before → P ((before ++ GaveOperator source sink ∷ []) ++ CameFromOperator source' sink' end ∷ [])) → P t
       twice P t is right = told_more P (CameFromOperator source' sink' end) d'.told t (sym back ∙ is) (λ mid was.
-        told_more (λ m. P (m ++ CameFromOperator source' sink' end ∷ [])) (GaveOperator source sink) d.told mid (sym came ∙ was) right)
+          told_more (λ m. P (m ++ CameFromOperator source' sink' end ∷ [])) (GaveOperator source sink) d.told mid (sym came ∙ was) right)
 
       fewer : (before : List (Entry (SessionLeft R))) → HasIds start ((before ++ GaveOperator source sink ∷ []) ++ CameFromOperator source' sink' end ∷ []) → HasIds start before
       fewer before ids = ids_before start before (GaveOperator source sink ∷ []) (ids_before start (before ++ GaveOperator source sink ∷ []) (CameFromOperator source' sink' end ∷ []) ids)
@@ -325,30 +325,30 @@ module _ {R : Type 0} (start : Start) (setup : Setup) where
     notes = n.notes ++ left_by side (dialect_number (dialect_on side setup)) began ended (summary_of run.left.report) id;
     has = adds start n.notes keeper n.has;
     of_runs = λ t is ids. told_more (λ t. HasIds start t → AreNotesOf setup start t (n.notes ++ left_by side (dialect_number (dialect_on side setup)) began ended (summary_of run.left.report) id)) (CameBack run) d.told t (sym told ∙ is) (λ before was ids.
-      let fewer = ids_before start before (CameBack run ∷ []) ids in
-      let has = begun before was fewer in
-      let one : left_by side (dialect_number (dialect_on side setup)) began ended (summary_of run.left.report) id ≡ note_of (start.greatest + has.place) side (dialect_number (dialect_on side setup)) began ended (summary_of run.left.report) ∷ [] = ap (left_by side (dialect_number (dialect_on side setup)) began ended (summary_of run.left.report)) has.is in
-      subst (λ rs. Pairs (IsNoteOf setup start.greatest (before ++ CameBack run ∷ [])) rs (n.notes ++ left_by side (dialect_number (dialect_on side setup)) began ended (summary_of run.left.report) id)) (sym (runs-append before (CameBack run ∷ [])))
-      (subst (λ l. Pairs (IsNoteOf setup start.greatest (before ++ CameBack run ∷ [])) (runs before ++ run ∷ []) (n.notes ++ l)) (sym one)
-      (pairs_snoc (IsNoteOf setup start.greatest (before ++ CameBack run ∷ [])) (runs before) n.notes run (note_of (start.greatest + has.place) side (dialect_number (dialect_on side setup)) began ended (summary_of run.left.report))
-      (notes_kept before (CameBack run ∷ []) (runs before) n.notes (n.of_runs before was fewer))
-      (record {
-        side = side;
-        ends = ends;
-        place = has.place;
-        began = began;
-        ended = ended;
-        placed = placed_more has.place side ends before (CameBack run ∷ []) has.placed;
-        number = number;
-        is = refl;
-      })))) ids;
+        let fewer = ids_before start before (CameBack run ∷ []) ids in
+        let has = begun before was fewer in
+        let one : left_by side (dialect_number (dialect_on side setup)) began ended (summary_of run.left.report) id ≡ note_of (start.greatest + has.place) side (dialect_number (dialect_on side setup)) began ended (summary_of run.left.report) ∷ [] = ap (left_by side (dialect_number (dialect_on side setup)) began ended (summary_of run.left.report)) has.is in
+        subst (λ rs. Pairs (IsNoteOf setup start.greatest (before ++ CameBack run ∷ [])) rs (n.notes ++ left_by side (dialect_number (dialect_on side setup)) began ended (summary_of run.left.report) id)) (sym (runs-append before (CameBack run ∷ [])))
+        (subst (λ l. Pairs (IsNoteOf setup start.greatest (before ++ CameBack run ∷ [])) (runs before ++ run ∷ []) (n.notes ++ l)) (sym one)
+        (pairs_snoc (IsNoteOf setup start.greatest (before ++ CameBack run ∷ [])) (runs before) n.notes run (note_of (start.greatest + has.place) side (dialect_number (dialect_on side setup)) began ended (summary_of run.left.report))
+        (notes_kept before (CameBack run ∷ []) (runs before) n.notes (n.of_runs before was fewer))
+        (record {
+          side = side;
+          ends = ends;
+          place = has.place;
+          began = began;
+          ended = ended;
+          placed = placed_more has.place side ends before (CameBack run ∷ []) has.placed;
+          number = number;
+          is = refl;
+        })))) ids;
     drawn = λ t is ids. told_more (λ t. HasIds start t → desk'.board.drawn + turned t + w ≡ start.greatest + visits t) (CameBack run) d.told t (sym told ∙ is) (λ before was ids.
-      let had = n.drawn before was (ids_before start before (CameBack run ∷ []) ids) in
-      let given = visits-append before (CameBack run ∷ []) in
-      let away = turned-append before (CameBack run ∷ []) in
-      omega arith) ids;
+        let had = n.drawn before was (ids_before start before (CameBack run ∷ []) ids) in
+        let given = visits-append before (CameBack run ∷ []) in
+        let away = turned-append before (CameBack run ∷ []) in
+        omega arith) ids;
     operators = λ t is ids. told_more (λ t. HasIds start t → AllAnswered setup start t) (CameBack run) d.told t (sym told ∙ is) (λ before was ids.
-      all_more before (CameBack run) (n.operators before was (ids_before start before (CameBack run ∷ []) ids)) tt refl) ids;
+        all_more before (CameBack run) (n.operators before was (ids_before start before (CameBack run ∷ []) ids)) tt refl) ids;
   }
 
   -- ---- notes are put

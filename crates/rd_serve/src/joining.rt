@@ -23,8 +23,8 @@ use crate::session::{SESSIONS, Served, Session};
 use rd_base::{Clock, NoMemory, Side, Sink, Source, Stopper};
 use rd_desk::{Begun, Desk, begin_session, dialect_number, end_session};
 use rd_doors::{Doors, Ends, Visit};
-use rd_lent_book::LentBook;
 use rd_keeper::{KeepFail, Keeper};
+use rd_lent_book::LentBook;
 use rd_operator::operator_once;
 use rd_run_session::{
     SessionLeft, SessionRunner, another_runner, dialect_of, run_visit, take_in_runner,
@@ -326,4 +326,3 @@ pub fn join_all<
         );
     }
 }
-

@@ -24,8 +24,8 @@ use crate::session::{SESSIONS, Session, begin};
 use rd_base::{Clock, NoMemory, Side, Sink, Source, Stopper};
 use rd_desk::{Begun, Desk, begin_session, dialect_number, end_session};
 use rd_doors::{Doors, Ends, Visit};
-use rd_lent_book::LentBook;
 use rd_keeper::{KeepFail, Keeper};
+use rd_lent_book::LentBook;
 use rd_operator::operator_once;
 use rd_run_session::{
     SessionLeft, SessionRunner, another_runner, dialect_of, run_visit, take_in_runner,
@@ -170,9 +170,7 @@ fn admit<
     let begun = begin_session(desk, clock);
     let (Some(theirs), Ok(shared)) = (another_runner(runner), Arc::try_clone(&flag)) else {
         flags.push_reserved(flag);
-        serve_here(
-            alloc, doors, runner, first, side, ends, begun, desk, clock,
-        );
+        serve_here(alloc, doors, runner, first, side, ends, begun, desk, clock);
         return;
     };
     let number = ends.number;
@@ -303,11 +301,7 @@ fn receive<
 }
 
 /// Answers an operator by the board and the keeper's notes.
-fn answer<
-    R: Wait + Threads + Copy + Send + Sync + 'static,
-    E: Doors<SessionLeft<R>>,
-    Y: Keeper,
->(
+fn answer<R: Wait + Threads + Copy + Send + Sync + 'static, E: Doors<SessionLeft<R>>, Y: Keeper>(
     alloc: Global,
     doors: &mut E,
     source: E::Give,
@@ -462,9 +456,7 @@ fn serve_visits<
         if over {
             return;
         }
-        join_ended(
-            rt, doors, runner, first, None, sessions, flags, desk, clock,
-        );
+        join_ended(rt, doors, runner, first, None, sessions, flags, desk, clock);
         let _put = desk.keep_some(keeper);
     }
 }

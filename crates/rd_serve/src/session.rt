@@ -70,7 +70,15 @@ pub struct Session<
 
 /// What a session's thread runs: the session of a visit, by who counts from 0, and the flag that it sets.
 #[derive(Drop)]
-struct Job<S: Source, K: Sink, P: Spawner, C: Clock, T: Stopper, B: LentBook, R: Wait + Threads + Copy> {
+struct Job<
+    S: Source,
+    K: Sink,
+    P: Spawner,
+    C: Clock,
+    T: Stopper,
+    B: LentBook,
+    R: Wait + Threads + Copy,
+> {
     alloc: Global,
     side: Side,
     ends: Ends<S, K>,

@@ -166,7 +166,13 @@ fn clients_side_by_side(rt: HostRuntime) -> Result<(), Fail> {
             panic!(rt; "no desk");
         };
         let served = serve(
-            rt, alloc, &mut doors, &mut runner, desk, &mut clock, &mut keeper,
+            rt,
+            alloc,
+            &mut doors,
+            &mut runner,
+            desk,
+            &mut clock,
+            &mut keeper,
         );
         assert!(rt; served.is_ok());
         let runs = runs_of(alloc, doors.told())?;

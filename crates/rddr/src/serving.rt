@@ -109,9 +109,7 @@ pub fn run_main<
     ensures stays { StaysOpen (K.tells out.old) (K.tells out.new) }
 {
     match served_settings(alloc, words, files) {
-        Ok(settings) => serve_by(
-            rt, alloc, settings, doors, spawner, clock, stop, keeper,
-        ),
+        Ok(settings) => serve_by(rt, alloc, settings, doors, spawner, clock, stop, keeper),
         Err(refusal) => refuse_to_serve(alloc, refusal, out),
     }
 }

@@ -15,5 +15,5 @@ invariant-loop g l =
     × HasRoom l.sessions l.flags
     × AreLive l.desk.ids l.sessions.items
     × ((start : Start) → AreKept start l.first.value.setup (g.E.Doors.tells l.initial.doors) l.initial.desk (g.Y.Keeper.tells l.initial.keeper) 0 g.E.Give.Source.tells g.E.Take.Sink.tells l.initial.sessions.items
-        → AreKept start l.first.value.setup (g.E.Doors.tells l.doors) l.desk (g.Y.Keeper.tells l.keeper) 0 g.E.Give.Source.tells g.E.Take.Sink.tells l.sessions.items)
+    → AreKept start l.first.value.setup (g.E.Doors.tells l.doors) l.desk (g.Y.Keeper.tells l.keeper) 0 g.E.Give.Source.tells g.E.Take.Sink.tells l.sessions.items)
     × ((g.Y.Keeper.tells l.initial.keeper).faults ≤ (g.Y.Keeper.tells l.keeper).faults)
