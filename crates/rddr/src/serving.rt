@@ -264,6 +264,14 @@ fn serve_by<
     )
 }
 
+/// An empty book of so many seats. None where memory runs out.
+fn book_of<J: Naming, R: Wait + Copy>(rt: R, alloc: Global, list: NewList) -> Option<Lender<J, R>>
+    requires book { list.seen.book ≡ J.book }
+    requires seats { J.seats ≡ 33 }
+{
+    Lender::make(rt, alloc, list, SEATS).ok()
+}
+
 /// The same, with an empty book whose seats each session and its server have one of.
 fn serve_with<
     J: Naming + Send + Sync + 'static,
@@ -311,6 +319,9 @@ fn serve_with<
     ensures unwritten { result ≡ 5 → ⊥ }
     ensures ports { result ≡ 7 → Rose (E.tells doors.old).faults (E.tells doors.new).faults }
 {
+    let Some(book) = book_of::<J, R>(rt, alloc, list) else {
+        return 6;
+    };
     let desk = match Desk::open(alloc, keeper) {
         Ok(desk) => desk,
         Err(KeepFail::Failed) => return 4,
@@ -328,9 +339,6 @@ fn serve_with<
         rules,
         ports: _,
     } = settings;
-    let Ok(book) = Lender::<J, R>::make(rt, alloc, list, SEATS) else {
-        return 6;
-    };
     let mut runner = SessionRunner::new(
         rt,
         alloc,
