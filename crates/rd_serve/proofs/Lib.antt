@@ -2,5 +2,3 @@ pub mod Telling
 pub mod Times
 pub mod Outs
 pub mod Counted
-pub mod Noting
-pub mod Live

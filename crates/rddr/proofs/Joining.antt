@@ -3,17 +3,12 @@ use Rattle.std.proofs.Common.{◌≡◌, ℕ, ◌+◌, ◌-◌, ◌^◌, ◌≤�
 use Rattle.std.proofs.lemmas.Bool.{cases_lt}
 use Rattle.rd_base.specs.Counts.{sum_counted}
 use Rattle.rd_doors.specs.Visits.{Entry}
-use Rattle.rd_keeper.specs.Keeping.{KeeperTold}
-use Rattle.rd_desk.specs.Desk.{DeskView, Start, IsAt, Opens}
-use Rattle.rd_desk.specs.Noted.{start_over}
 use Rattle.rd_runner.specs.Counts.{RoseBy}
 use Rattle.rd_runner.specs.Runs.{Setup}
 use Rattle.rd_run_session.specs.CameTo.{CameTo}
 use Rattle.rd_run_session.specs.Counted.{capped}
 use Rattle.rd_run_session.specs.declared.left.SessionLeft.{SessionLeft}
 use Rattle.rd_serve.specs.Counting.{EachRun, IsWithin, times_stopped, times_unstarted}
-use Rattle.rd_serve.specs.Notes.{HasIds}
-use Rattle.rd_serve.specs.Operators.{NotesAndAnswers, AllNoted}
 use Rattle.rd_serve.specs.Serving.{IsServed, times_given, times_ended}
 use Rattle.rd_serve.proofs.Counted.{each_run_kept}
 
@@ -58,12 +53,3 @@ module _ {R : Type 0} where
 
   pub none_late : (span : ℕ) (told : List (Entry (SessionLeft R))) → told ≡ [] → EachRun (IsWithin span) told
   none_late span told is = subst (λ t. EachRun (IsWithin span) t) (sym is) tt
-
-  -- ---- notes over a keeper that tells its notes
-
-  pub all_noted : (setup : Setup) (told : List (Entry (SessionLeft R))) (desk : DeskView) (keeper opened ended : KeeperTold)
-      → Opens desk keeper → IsAt (record { keeper = keeper; greatest = desk.board.drawn }) [] desk opened
-      → ((start : Start) → IsAt start [] desk opened → HasIds start told → NotesAndAnswers setup start told ended)
-      → AllNoted setup told keeper ended
-  all_noted setup told desk keeper opened ended opens at served notes has ids =
-      served (start_over keeper notes) (subst (λ n. IsAt (record { keeper = keeper; greatest = n }) [] desk opened) (opens.greatest notes has) at) ids

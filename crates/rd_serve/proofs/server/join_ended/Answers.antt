@@ -1,6 +1,6 @@
 use Rattle.std.proofs.Common.{◌∙◌}
 use Rattle.rd_serve.proofs.Telling.{keeps_then}
-use Rattle.rd_serve.proofs.joining.join_ended.Goals as goal
+use Rattle.rd_serve.proofs.server.join_ended.Goals as goal
 
 pub loop-count-preserved : goal.loop-count-preserved
 loop-count-preserved g c = (
@@ -10,7 +10,4 @@ loop-count-preserved g c = (
   c.join_at.ensures.room,
   c.join_at.ensures.over ∙ c.loop-count.invariant.4,
   keeps_then (g.E.Doors.tells c.args.doors.now) (g.E.Doors.tells c.loop-count.doors) (g.E.Doors.tells c.join_at.new.doors) c.loop-count.invariant.5 c.join_at.ensures.keeps,
-  c.join_at.ensures.live,
-  c.join_at.ensures.drawn ∙ c.loop-count.invariant.7,
-  (λ start keeper wait kept. c.join_at.ensures.notes start keeper wait (c.loop-count.invariant.8 start keeper wait kept)),
 )

@@ -2,10 +2,9 @@ use Rattle.std.proofs.Common.{◌≡◌, ◌≤◌, ap, subst, arith}
 use Rattle.rd_runner.specs.Runs.{Setup, setup_of}
 use Rattle.rd_runner.specs.Counts.{RunnerTold}
 use Rattle.rd_run_session.specs.CameTo.{CameTo}
-use Rattle.rd_serve.specs.Operators.{NotesAndAnswers}
 use Rattle.rd_serve.specs.Serving.{IsServed}
-use Rattle.rddr.proofs.Joining.{late_with, all_noted}
-use Rattle.rddr.proofs.serving.serve_with.Goals as goal
+use Rattle.rddr.proofs.Joining.{late_with}
+use Rattle.rddr.proofs.serving.serve_by.Goals as goal
 
 -- ---- the doors are over
 
@@ -19,12 +18,6 @@ returns-in-Ok-served-clause-late g c told is =
     let joined = c.join_in-2.ensures.span in
     let parts = c.into_parts-their_spawner.ensures.span in
     late_with c.serve-served.new.runner.span (g.C.Clock.tells c.join_in-2.new.self).span told (omega arith) (c.serve-served.ensures.late told is)
-
-pub returns-in-Ok-served-clause-notes : goal.returns-in-Ok-served-clause-notes
-returns-in-Ok-served-clause-notes g c zero told is =
-    let setup : c.new-runner.result.setup ≡ setup_of c.args.settings = ap (λ (r : RunnerTold). r.setup) c.new-runner.ensures in
-    all_noted (setup_of c.args.settings) told c.in-Ok.desk (g.Y.Keeper.tells c.args.keeper.now) (g.Y.Keeper.tells c.open.new.keeper) (g.Y.Keeper.tells c.serve-served.new.keeper) c.in-Ok.ensures.opens c.in-Ok.ensures.at
-    (λ start at ids. subst (λ (s : Setup). NotesAndAnswers s start told (g.Y.Keeper.tells c.serve-served.new.keeper)) setup (c.in-Ok-served.ensures.notes start told at is ids))
 
 -- ---- memory ran out
 

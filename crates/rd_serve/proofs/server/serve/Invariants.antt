@@ -1,0 +1,14 @@
+use Rattle.std.proofs.Common.{◌≡◌, None}
+use Rattle.rd_run_session.specs.CameTo.{CameTo}
+use Rattle.rd_serve.specs.Serving.{Tells}
+use Rattle.rd_serve.specs.Counting.{CountedBy}
+use Rattle.rd_serve.specs.Sessions.{AreOut, HasRoom}
+use Rattle.rd_serve.proofs.server.serve.Given as goal
+
+abbrev pub invariant-loop : goal.invariant-loop
+invariant-loop g l =
+    Tells (CameTo g.row.E-Give.Denot) l.first.value.setup (g.E.Doors.tells l.doors)
+    × CountedBy l.first.value l.runner (g.E.Doors.tells l.doors)
+    × AreOut g.E.Give.Source.tells g.E.Take.Sink.tells l.first.value.setup (g.E.Doors.tells l.doors) None l.sessions.items
+    × HasRoom l.sessions l.flags
+    × (l.first.value ≡ l.initial.runner)
