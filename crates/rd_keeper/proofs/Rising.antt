@@ -76,13 +76,17 @@ slice_get-drop (x ∷ xs) (suc i) = slice_get-drop xs i
 
 -- ---- an id among them
 
-none_above : (id : ℕ) (n : SessionNote) (notes : List SessionNote) → id < n.id → All (λ m. n.id < m.id) notes → is_kept id notes ≡ false
-none_above id n notes below rising = list_any_none (has_id id) notes (weaker (λ m. n.id < m.id) (λ m. has_id id m ≡ false) differs notes rising)
+-- an id that is below all notes isn't kept
+pub none_among : (id : ℕ) (notes : List SessionNote) → All (λ m. id < m.id) notes → is_kept id notes ≡ false
+none_among id notes above = list_any_none (has_id id) notes (weaker (λ m. id < m.id) (λ m. has_id id m ≡ false) differs notes above)
   where
-    differs : (m : SessionNote) → n.id < m.id → has_id id m ≡ false
+    differs : (m : SessionNote) → id < m.id → has_id id m ≡ false
     differs m lt = elim (eqb_tells m.id id) [ inl here ↦ absurd (omega (arith, here.1)) | inr other ↦ other.0 ]
 
-find_none : (id : ℕ) (notes : List SessionNote) → is_kept id notes ≡ false → find (has_id id) notes ≡ None
+pub none_above : (id : ℕ) (n : SessionNote) (notes : List SessionNote) → id < n.id → All (λ m. n.id < m.id) notes → is_kept id notes ≡ false
+none_above id n notes below rising = none_among id notes (weaker (λ m. n.id < m.id) (λ m. id < m.id) (λ m lt. omega arith) notes rising)
+
+pub find_none : (id : ℕ) (notes : List SessionNote) → is_kept id notes ≡ false → find (has_id id) notes ≡ None
 find_none id [] none = refl
 find_none id (n ∷ notes) none = go (has_id id n) none (λ e. find_none id notes e)
   where

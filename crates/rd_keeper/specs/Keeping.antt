@@ -18,6 +18,10 @@ pub record MemKeeperView : Type 0 where
   pub notes : List SessionNote
   pub faults : ℕ
 
+-- and of one in a database
+pub record SqlKeeperView : Type 0 where
+  pub faults : ℕ
+
 -- Failed only where the count of faults rose
 pub record HasCause {A : Type 0} (result : Result A KeepFail) (before after : KeeperTold) : Type 0 where
   pub failed : result ≡ Err Failed → Rose before.faults after.faults

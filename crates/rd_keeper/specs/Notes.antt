@@ -29,7 +29,7 @@ with_note notes note =
     if is_kept note.id notes then notes
     else filter (is_below note.id) notes ++ note ∷ filter (is_above note.id) notes
 
--- the notes after these puts: the first of each id
+-- the notes after these puts, each put in turn
 abbrev pub notes_after : List SessionNote → List SessionNote
 notes_after puts = fold with_note [] puts
 

@@ -2,12 +2,14 @@
 #![tactic(auto)]
 
 mod keeper;
+mod laws;
 mod mem_keeper;
 mod notes;
 mod sql_keeper;
 mod table;
 
 pub use keeper::{KeepFail, Keeper, Put};
+pub use laws::keeper_laws;
 pub use mem_keeper::MemKeeper;
 pub use notes::Notes;
 pub use sql_keeper::SqlKeeper;

@@ -1,4 +1,4 @@
-ghost use Rattle.std.specs.Prelude.{◌≡◌, ◌≤◌, ◌-◌, ◌^◌, None};
+ghost use Rattle.std.specs.Prelude.{◌≡◌, ◌≤◌, ◌-◌, ◌^◌, None, IfOk};
 ghost use Rattle.rd_base.specs.Outside.{Rose};
 ghost use Rattle.rd_keeper.specs.Keeping.{KeeperTold};
 
@@ -8,6 +8,7 @@ use crate::table::{find_note, greatest_id, list_notes, make_tables, put_note};
 use rd_base::{NoMemory, SessionNote};
 use sqlite::{Connection, Error, ErrorCode, File, FileStore, MemStore};
 use std::alloc::Global;
+use std::marker::Model;
 use std::rt::HostRuntime;
 
 /// Where the tables are.
@@ -29,10 +30,20 @@ pub struct SqlKeeper {
     faults: u64,
 }
 
+impl Model for SqlKeeper {
+    ghost use Rattle.rd_keeper.specs.Keeping.{SqlKeeperView};
+
+    ghost Value = { SqlKeeperView };
+
+    ghost view = { λ k. record { faults = k.faults } };
+}
+
 impl SqlKeeper {
     /// Opens the file, or makes it. Where it can't be opened, or is of another make, every call of the keeper
     /// fails, and the file is left as it was.
-    pub fn open(rt: &HostRuntime, alloc: Global, name: &str) -> Result<SqlKeeper, NoMemory> {
+    pub fn open(rt: &HostRuntime, alloc: Global, name: &str) -> Result<SqlKeeper, NoMemory>
+        ensures { IfOk result (λ keeper. keeper.faults ≡ 0) }
+    {
         let store = match open_file(rt, name) {
             Ok(conn) => Store::File(conn),
             Err(error) => refused_by(error)?,
@@ -45,7 +56,9 @@ impl SqlKeeper {
     }
 
     /// A store in memory, for tests.
-    pub fn in_memory(alloc: Global) -> Result<SqlKeeper, NoMemory> {
+    pub fn in_memory(alloc: Global) -> Result<SqlKeeper, NoMemory>
+        ensures { IfOk result (λ keeper. keeper.faults ≡ 0) }
+    {
         let store = match open_memory(alloc) {
             Ok(conn) => Store::Memory(conn),
             Err(error) => refused_by(error)?,
