@@ -1,6 +1,6 @@
 -- The notes after a list of puts: by rising id, the first put note of each id.
 use Rattle.std.proofs.Common.{inl, inr, ◌≡◌, ℕ, ◌<◌, ◌≤◌, Bool, true, false, cond, List, [], ◌∷◌, ◌++◌, Some, None, Option, refl, sym, ap, subst, ◌∙◌, arith}
-use Rattle.std.specs.Prelude.{Result, is_ok, option_map, find, filter, fold, ◌||◌, All}
+use Rattle.std.specs.Prelude.{Result, is_ok, option_map, find, filter, fold, ◌||◌}
 use Rattle.std.specs.Option.{option_or}
 use Rattle.std.proofs.lemmas.Bool.{cases_lt, lt-ltb, le-ltb}
 use Rattle.std.proofs.lemmas.Bool.Decides.{eqb_tells}

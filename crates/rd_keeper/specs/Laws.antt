@@ -13,11 +13,13 @@ pub record AreFirsts (puts notes : List SessionNote) : Type 0 where
 
 -- the notes after a list of puts are that
 abbrev pub KeepsFirsts : Type 0
-KeepsFirsts = (puts : List SessionNote) → AreFirsts puts (notes_after puts)
+KeepsFirsts =
+    (puts : List SessionNote) → AreFirsts puts (notes_after puts)
 
 -- and no others are
 abbrev pub KeepsNothingElse : Type 0
-KeepsNothingElse = (puts notes : List SessionNote) → AreFirsts puts notes → notes ≡ notes_after puts
+KeepsNothingElse =
+    (puts notes : List SessionNote) → AreFirsts puts notes → notes ≡ notes_after puts
 
 -- a put counts where it was answered
 abbrev pub puts_with : List SessionNote → SessionNote → Result Put KeepFail → List SessionNote
@@ -25,6 +27,7 @@ puts_with puts note result = if is_ok result then puts ++ note ∷ [] else puts
 
 -- a keeper whose notes are those after some puts has, after one more, those after these and this one
 abbrev pub FollowsPuts : Type 0
-FollowsPuts = (puts : List SessionNote) (note : SessionNote) (result : Result Put KeepFail) (before after : KeeperTold)
-    → before.notes ≡ Some (notes_after puts) → Puts note result before after
+FollowsPuts =
+    (puts : List SessionNote) (note : SessionNote) (result : Result Put KeepFail)
+    → (before after : KeeperTold) → before.notes ≡ Some (notes_after puts) → Puts note result before after
     → after.notes ≡ Some (notes_after (puts_with puts note result))

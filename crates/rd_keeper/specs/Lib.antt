@@ -1,3 +1,4 @@
 pub mod Notes
 pub mod Keeping
+pub mod Stores
 pub mod Laws

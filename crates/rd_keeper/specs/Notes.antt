@@ -1,5 +1,5 @@
 -- Lists of session notes by rising id, one of each.
-use Rattle.std.specs.Prelude.{◌≡◌, ℕ, ◌<◌, ◌-◌, ◌==◌, nat_le, nat_lt, Bool, false, List, [], ◌∷◌, ◌++◌, Option, Some, None, option_map, length, filter, fold, slice_get, All, if◌then◌else◌}
+use Rattle.std.specs.Prelude.{ℕ, ◌<◌, ◌-◌, ◌==◌, nat_le, nat_lt, Bool, false, List, [], ◌∷◌, ◌++◌, Option, Some, None, option_map, length, filter, fold, slice_get, All, if◌then◌else◌}
 use Rattle.std.specs.List.{list_any}
 use Rattle.rd_base.specs.declared.session_note.SessionNote.{SessionNote}
 

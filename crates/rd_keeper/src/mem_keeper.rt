@@ -1,7 +1,8 @@
-ghost use Rattle.std.specs.Prelude.{◌≡◌, ◌≤◌, ◌-◌, ◌^◌, [], Some, find, filter, nat_le, nat_lt, length, take, drop, option_map, IfOk, IfErr, OnErr, OnOk, slice_get, insert, None, if◌then◌else◌};
+ghost use Rattle.std.specs.Prelude.{◌≡◌, ◌≤◌, ◌-◌, ◌^◌, [], None, Ok, Err, find, filter, length, take, drop, insert, slice_get, IfOk, OnErr, OnOk, if◌then◌else◌};
 ghost use Rattle.rd_base.specs.Outside.{Rose};
-ghost use Rattle.rd_keeper.specs.Keeping.{KeeperTold, Answers, HasCause, Puts};
-ghost use Rattle.rd_keeper.specs.Notes.{AreRising, is_from, is_below, is_id_in};
+ghost use Rattle.rd_base.specs.Counts.{counted};
+ghost use Rattle.rd_keeper.specs.Keeping.{KeeperTold, Answers, FailsListed, HasCause, Puts, is_listed, mem_tells};
+ghost use Rattle.rd_keeper.specs.Notes.{AreRising, has_id, notes_from, greatest_id, is_from, is_below, is_id_in};
 
 use crate::keeper::{KeepFail, Keeper, Put};
 use crate::notes::Notes;
@@ -25,7 +26,12 @@ impl Model for MemKeeper {
 
     ghost Value = { MemKeeperView };
 
-    ghost view = { λ k. record { notes = k.notes.items; faults = k.faults } };
+    ghost view = { λ k. record {
+      notes = k.notes.items;
+      faults = k.faults;
+      calls = k.calls;
+      failing = k.failing.items;
+    } };
 
     ghost invariant = { λ k. AreRising k.notes.items };
 }
@@ -33,7 +39,7 @@ impl Model for MemKeeper {
 impl MemKeeper {
     /// A keeper without notes, and the numbers, from 0, of the calls that are to fail.
     pub fn new(alloc: Global, failing: Vec<u64>) -> MemKeeper
-        ensures { result ≡ record { notes = []; faults = 0 } }
+        ensures { result ≡ record { notes = []; faults = 0; calls = 0; failing = failing.items } }
     {
         MemKeeper {
             alloc,
@@ -53,9 +59,16 @@ impl MemKeeper {
 }
 
 impl Keeper for MemKeeper {
-    ghost tells = { λ k. record { notes = Some k.notes; faults = k.faults } };
+    ghost tells = { mem_tells };
 
-    fn put(&mut self, entry: &SessionNote) -> Result<Put, KeepFail> {
+    fn put(&mut self, entry: &SessionNote) -> Result<Put, KeepFail>
+        requires id { entry.now.id ≤ 2 ^ 63 - 1 }
+        requires began { entry.now.began ≤ 2 ^ 63 - 1 }
+        requires ended { entry.now.ended ≤ 2 ^ 63 - 1 }
+        ensures notes { Puts entry.now result (mem_tells self.old) (mem_tells self.new) }
+        ensures cause { HasCause result (mem_tells self.old) (mem_tells self.new) }
+        ensures listed { FailsListed result self.old self.new }
+    {
         count_call(&mut self.calls, &mut self.faults, &self.failing)?;
         let place = place_of(&self.notes, entry.id);
         if is_id_at(&self.notes, place, entry.id) {
@@ -65,20 +78,36 @@ impl Keeper for MemKeeper {
         Ok(Put::Fresh)
     }
 
-    fn one(&mut self, id: u64) -> Result<Option<SessionNote>, KeepFail> {
+    fn one(&mut self, id: u64) -> Result<Option<SessionNote>, KeepFail>
+        ensures found { Answers result (find (has_id id)) (mem_tells self.old) }
+        ensures notes { (mem_tells self.new).notes ≡ (mem_tells self.old).notes }
+        ensures cause { HasCause result (mem_tells self.old) (mem_tells self.new) }
+        ensures listed { FailsListed result self.old self.new }
+    {
         count_call(&mut self.calls, &mut self.faults, &self.failing)?;
         let place = place_of(&self.notes, id);
         Ok(note_at(&self.notes, place, id))
     }
 
-    fn page(&mut self, from: u64, count: u16) -> Result<Notes, KeepFail> {
+    fn page(&mut self, from: u64, count: u16) -> Result<Notes, KeepFail>
+        ensures found { Answers result (λ notes. take count (notes_from from notes))
+            (mem_tells self.old) }
+        ensures notes { (mem_tells self.new).notes ≡ (mem_tells self.old).notes }
+        ensures cause { HasCause result (mem_tells self.old) (mem_tells self.new) }
+        ensures listed { FailsListed result self.old self.new }
+    {
         count_call(&mut self.calls, &mut self.faults, &self.failing)?;
         let rest = &self.notes[place_of(&self.notes, from)..];
         let count = rest.len().min(count as usize);
         Ok(Notes::from_slice(self.alloc, &rest[..count])?)
     }
 
-    fn greatest(&mut self) -> Result<Option<u64>, KeepFail> {
+    fn greatest(&mut self) -> Result<Option<u64>, KeepFail>
+        ensures found { Answers result greatest_id (mem_tells self.old) }
+        ensures notes { (mem_tells self.new).notes ≡ (mem_tells self.old).notes }
+        ensures cause { HasCause result (mem_tells self.old) (mem_tells self.new) }
+        ensures listed { FailsListed result self.old self.new }
+    {
         count_call(&mut self.calls, &mut self.faults, &self.failing)?;
         match self.notes.last() {
             Some(note) => Ok(Some(note.id)),
@@ -90,8 +119,10 @@ impl Keeper for MemKeeper {
 /// Counts a call, which fails where its number is listed.
 fn count_call(calls: &mut u64, faults: &mut u64, failing: &[u64]) -> Result<(), KeepFail>
     ensures ok { OnOk result (faults.new ≡ faults.old) }
-    ensures err { IfErr result (λ fail. fail ≡ KeepFail.Failed) }
     ensures rose { OnErr result (Rose faults.old faults.new) }
+    ensures value { result ≡ (if is_listed calls.old failing.now
+        then Err KeepFail.Failed else Ok tt) }
+    ensures calls { calls.new ≡ counted calls.old }
 {
     let call = *calls;
     *calls = calls.saturating_add(1);

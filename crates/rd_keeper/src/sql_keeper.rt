@@ -1,6 +1,8 @@
-ghost use Rattle.std.specs.Prelude.{◌≡◌, ◌≤◌, ◌-◌, ◌^◌, None, IfOk};
+ghost use Rattle.std.specs.Prelude.{◌≡◌, ◌≢◌, ◌≤◌, ◌-◌, ◌^◌, true, find, take, IfOk};
 ghost use Rattle.rd_base.specs.Outside.{Rose};
-ghost use Rattle.rd_keeper.specs.Keeping.{KeeperTold};
+ghost use Rattle.rd_keeper.specs.Keeping.{KeeperTold, Answers, FailsRefused, HasCause, Puts, sql_tells};
+ghost use Rattle.rd_keeper.specs.Notes.{has_id, notes_from, greatest_id};
+ghost use Rattle.rd_keeper.specs.Stores.{FailsStore, is_refused};
 
 use crate::keeper::{KeepFail, Keeper, Put};
 use crate::notes::Notes;
@@ -32,10 +34,11 @@ pub struct SqlKeeper {
 
 impl Model for SqlKeeper {
     ghost use Rattle.rd_keeper.specs.Keeping.{SqlKeeperView};
+    ghost use Rattle.rd_keeper.specs.Stores.{is_refused};
 
     ghost Value = { SqlKeeperView };
 
-    ghost view = { λ k. record { faults = k.faults } };
+    ghost view = { λ k. record { is_refused = is_refused k.store; faults = k.faults } };
 }
 
 impl SqlKeeper {
@@ -70,6 +73,13 @@ impl SqlKeeper {
         })
     }
 
+    /// Whether the store couldn't be opened, or is of another make: every call fails then.
+    pub fn is_refused(&self) -> bool
+        ensures { result ≡ self.now.is_refused }
+    {
+        self.store.is_refused()
+    }
+
     /// The number of calls that failed.
     pub fn faults(&self) -> u64
         ensures { result ≡ self.now.faults }
@@ -79,9 +89,16 @@ impl SqlKeeper {
 }
 
 impl Keeper for SqlKeeper {
-    ghost tells = { λ k. record { notes = None; faults = k.faults } };
+    ghost tells = { sql_tells };
 
-    fn put(&mut self, entry: &SessionNote) -> Result<Put, KeepFail> {
+    fn put(&mut self, entry: &SessionNote) -> Result<Put, KeepFail>
+        requires id { entry.now.id ≤ 2 ^ 63 - 1 }
+        requires began { entry.now.began ≤ 2 ^ 63 - 1 }
+        requires ended { entry.now.ended ≤ 2 ^ 63 - 1 }
+        ensures notes { Puts entry.now result (sql_tells self.old) (sql_tells self.new) }
+        ensures cause { HasCause result (sql_tells self.old) (sql_tells self.new) }
+        ensures refused { FailsRefused result self.old self.new }
+    {
         match self.store.put(entry) {
             Ok(true) => Ok(Put::Fresh),
             Ok(false) => Ok(Put::Repeat),
@@ -89,21 +106,37 @@ impl Keeper for SqlKeeper {
         }
     }
 
-    fn one(&mut self, id: u64) -> Result<Option<SessionNote>, KeepFail> {
+    fn one(&mut self, id: u64) -> Result<Option<SessionNote>, KeepFail>
+        ensures found { Answers result (find (has_id id)) (sql_tells self.old) }
+        ensures notes { (sql_tells self.new).notes ≡ (sql_tells self.old).notes }
+        ensures cause { HasCause result (sql_tells self.old) (sql_tells self.new) }
+        ensures refused { FailsRefused result self.old self.new }
+    {
         match self.store.one(id) {
             Ok(note) => Ok(note),
             Err(error) => Err(count_fault(&mut self.faults, error)),
         }
     }
 
-    fn page(&mut self, from: u64, count: u16) -> Result<Notes, KeepFail> {
+    fn page(&mut self, from: u64, count: u16) -> Result<Notes, KeepFail>
+        ensures found { Answers result (λ notes. take count (notes_from from notes))
+            (sql_tells self.old) }
+        ensures notes { (sql_tells self.new).notes ≡ (sql_tells self.old).notes }
+        ensures cause { HasCause result (sql_tells self.old) (sql_tells self.new) }
+        ensures refused { FailsRefused result self.old self.new }
+    {
         match self.store.page(self.alloc, from, count) {
             Ok(notes) => Ok(notes),
             Err(error) => Err(count_fault(&mut self.faults, error)),
         }
     }
 
-    fn greatest(&mut self) -> Result<Option<u64>, KeepFail> {
+    fn greatest(&mut self) -> Result<Option<u64>, KeepFail>
+        ensures found { Answers result greatest_id (sql_tells self.old) }
+        ensures notes { (sql_tells self.new).notes ≡ (sql_tells self.old).notes }
+        ensures cause { HasCause result (sql_tells self.old) (sql_tells self.new) }
+        ensures refused { FailsRefused result self.old self.new }
+    {
         match self.store.greatest() {
             Ok(id) => Ok(id),
             Err(error) => Err(count_fault(&mut self.faults, error)),
@@ -112,11 +145,22 @@ impl Keeper for SqlKeeper {
 }
 
 impl Store {
+    fn is_refused(&self) -> bool
+        ensures { result ≡ is_refused self.now }
+    {
+        match self {
+            Store::File(_) => false,
+            Store::Memory(_) => false,
+            Store::Refused => true,
+        }
+    }
+
     /// Answers false where a note of its id is there.
     fn put(&mut self, entry: &SessionNote) -> Result<bool, Error>
         requires id { entry.now.id ≤ 2 ^ 63 - 1 }
         requires began { entry.now.began ≤ 2 ^ 63 - 1 }
         requires ended { entry.now.ended ≤ 2 ^ 63 - 1 }
+        ensures { FailsStore result self.old self.new }
     {
         match self {
             Store::File(conn) => put_note(conn, entry),
@@ -125,7 +169,9 @@ impl Store {
         }
     }
 
-    fn one(&mut self, id: u64) -> Result<Option<SessionNote>, Error> {
+    fn one(&mut self, id: u64) -> Result<Option<SessionNote>, Error>
+        ensures { FailsStore result self.old self.new }
+    {
         match self {
             Store::File(conn) => find_note(conn, id),
             Store::Memory(conn) => find_note(conn, id),
@@ -133,7 +179,9 @@ impl Store {
         }
     }
 
-    fn page(&mut self, alloc: Global, from: u64, count: u16) -> Result<Notes, Error> {
+    fn page(&mut self, alloc: Global, from: u64, count: u16) -> Result<Notes, Error>
+        ensures { FailsStore result self.old self.new }
+    {
         match self {
             Store::File(conn) => list_notes(alloc, conn, from, count),
             Store::Memory(conn) => list_notes(alloc, conn, from, count),
@@ -141,7 +189,9 @@ impl Store {
         }
     }
 
-    fn greatest(&mut self) -> Result<Option<u64>, Error> {
+    fn greatest(&mut self) -> Result<Option<u64>, Error>
+        ensures { FailsStore result self.old self.new }
+    {
         match self {
             Store::File(conn) => greatest_id(conn),
             Store::Memory(conn) => greatest_id(conn),
@@ -174,6 +224,7 @@ fn refused_by(error: Error) -> Result<Store, NoMemory> {
 /// What a call answers that met this error; its count rises but where memory ran out.
 fn count_fault(faults: &mut u64, error: Error) -> KeepFail
     ensures failed { result ≡ KeepFail.Failed → Rose faults.old faults.new }
+    ensures memory { error ≢ Error.SqliteFailure ErrorCode.OutOfMemory → result ≡ KeepFail.Failed }
     ensures faults { faults.old ≤ faults.new }
 {
     match error {
