@@ -1,11 +1,13 @@
 #!/usr/bin/env python3
 """Measures what crates cost in the gate: processor minutes of the check, the tests and the edits, and the most memory.
 
-Run it at the top of the repository, beside no other work: tools/measure_gate.py CRATE..
-Each crate is proved from nothing over what is built of the crates below it, so build those first. Its own out/ is set
-aside meanwhile and put back. It prints a row of the table of docs/GATE.md for each crate.
+Run it at the top of the repository: tools/measure_gate.py CRATE..
+Each crate is proved from nothing in a copy, over what is built of the crates below it; what was proved of these before
+is taken. It prints a row of the table of docs/GATE.md for each crate: processor time, so that other work on the machine
+changes it little, and the most memory of a process.
 """
 import os
+import re
 import shutil
 import subprocess
 import sys
@@ -33,18 +35,47 @@ def has_tests(folder):
     return False
 
 
+def renamed(crate, top):
+    """Copies the repository's crates, and gives this one another name: rt finds what it kept by the name, here and in
+    other checkouts, so nothing that was proved before is taken. Returns the new name."""
+    name = f"anew_{crate}"
+    for kept in ("crates.txt", "HANDLES"):
+        if os.path.exists(kept):
+            shutil.copy(kept, top)
+    shutil.copytree("crates", f"{top}/crates", ignore=shutil.ignore_patterns("out"))
+    os.rename(f"{top}/crates/{crate}", f"{top}/crates/{name}")
+    word = re.compile(rf"\b{crate}\b")
+    texts = [f"{at}/{it}" for at, _, names in os.walk(f"{top}/crates/{name}") for it in names if it.endswith((".rt", ".antt"))]
+    for path in texts:
+        with open(path, encoding="utf-8") as file:
+            text = file.read()
+        with open(path, "w", encoding="utf-8") as file:
+            file.write(word.sub(name, text))
+    with open(f"{top}/crates.txt", encoding="utf-8") as file:
+        lines = file.read().splitlines()
+    own = [it for it in lines if re.match(rf"{crate}\b", it)]
+    with open(f"{top}/crates.txt", "w", encoding="utf-8") as file:
+        file.write("\n".join([it for it in lines if not word.search(it)] + [word.sub(name, it) for it in own]) + "\n")
+    return name
+
+
+def build_below(crate, top):
+    """Proves and builds what a crate stands on, so that it isn't measured with it."""
+    with open(f"{top}/crates.txt", encoding="utf-8") as file:
+        below = dict(re.match(r"(\w+)[^:]*:(.*)", it).groups() for it in file if ":" in it)
+    for name in below[crate].split():
+        if os.path.isdir(f"{top}/crates/{name}"):
+            run(f"{top}/crates/{name}", "lib")
+
+
 def measure(crate):
-    folder, out, kept = f"crates/{crate}", f"crates/{crate}/out", f".out-of-{crate}"
-    if os.path.exists(out):
-        os.rename(out, kept)
-    try:
+    with tempfile.TemporaryDirectory(prefix="measure_gate.") as top:
+        name = renamed(crate, top)
+        folder = f"{top}/crates/{name}"
+        build_below(name, top)
         parts = [run(folder, "check")]
         parts.append(run(folder, "test") if has_tests(folder) else (0, 0))
-        parts.append(run(".", "must-fail", crate) if os.path.isdir(f"{folder}/must-fail") else (0, 0))
-    finally:
-        shutil.rmtree(out, ignore_errors=True)
-        if os.path.exists(kept):
-            os.rename(kept, out)
+        parts.append(run(top, "must-fail", name) if os.path.isdir(f"{folder}/must-fail") else (0, 0))
     minutes = [it for it, _ in parts]
     cells = [f"{it:.1f}" for it in (*minutes, sum(minutes), max(it for _, it in parts))]
     print(f"| {crate} | {' | '.join(cells)} |", flush=True)

@@ -372,10 +372,10 @@ def start(tool, name, first, count):
     return command, tool.begun(command)
 
 
-def hold(tool, name):
-    """A process of sqlite3 that holds a file to itself."""
+def hold(tool, name, statements="BEGIN EXCLUSIVE; SELECT 'held';"):
+    """A process of sqlite3 that holds a file to itself, or by other statements reads it."""
     holder = subprocess.Popen(["sqlite3", tool.path(name)], stdin=subprocess.PIPE, stdout=subprocess.PIPE, text=True)
-    holder.stdin.write("BEGIN EXCLUSIVE;\nSELECT 'held';\n")
+    holder.stdin.write(statements + "\n")
     holder.stdin.flush()
     holder.stdout.readline()
     return holder
@@ -396,6 +396,13 @@ def try_locks(tool):
     answers, faults = tool.puts("held.db", 1, 3)
     release(holder)
     check(answers == ["failed"] * 3 and faults == 3, "while sqlite3 holds the file, each put fails, and none waits")
+    reader = hold(tool, "held.db", "BEGIN; SELECT count(*) FROM sessions;")
+    answers, faults = tool.puts("held.db", 1, 3)
+    release(reader)
+    check(answers == ["failed"] * 3 and faults == 3, "while sqlite3 reads the file too")
+    notes = tool.list("held.db")
+    answers, faults = tool.puts("held.db", len(notes) + 1, 3)
+    check(answers == ["fresh"] * 3 and faults == 0, "once it has let go, notes are put behind those that were kept")
 
 
 def try_kills(tool, times):

@@ -89,7 +89,7 @@ fn keeps_over_both_keepers(rt: HostRuntime) {
     };
     let mut memory = MemKeeper::new(alloc, Vec::new(alloc));
     assert!(rt; keeps_all(&mut memory) && keeps_all(&mut table));
-    assert!(rt; memory.faults() == 0 && table.faults() == 0);
+    assert!(rt; memory.faults() == 0 && table.faults() == 0 && !table.is_refused());
 }
 
 /// Every call of a keeper that fails answers Failed.

@@ -13,7 +13,9 @@ fn remove_store(rt: &HostRuntime, name: &str, log: &str) {
 /// Each call of a store that can't be opened fails.
 fn is_refused(rt: &HostRuntime, name: &str) -> bool {
     match SqlKeeper::open(rt, rt.alloc(), name) {
-        Ok(mut keeper) => fails_each_call(&mut keeper) && keeper.faults() == 4,
+        Ok(mut keeper) => {
+            keeper.is_refused() && fails_each_call(&mut keeper) && keeper.faults() == 4
+        }
         Err(_) => false,
     }
 }
