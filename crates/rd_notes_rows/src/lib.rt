@@ -1,11 +1,7 @@
-// Rows of kept notes and of the operator's pages, over a keeper in memory and one in a database. Tests alone.
+// Rows of kept notes, over a keeper in memory and one in a database, and over files. Tests alone.
 #![tactic(auto)]
 
 #[cfg(test)]
-mod asking;
-#[cfg(test)]
 mod keepers;
-#[cfg(test)]
-mod pages;
 #[cfg(test)]
 mod stores;

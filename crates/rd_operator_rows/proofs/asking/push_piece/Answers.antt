@@ -2,7 +2,7 @@ use Rattle.std.proofs.Common.{◌≡◌, ◌≤◌, List, ℕ, [], ◌∷◌, le
 use Rattle.std.specs.Prelude.{All}
 use Rattle.std.proofs.lemmas.List.Elements.{All-append, All-cons, All-nil}
 use Rattle.rd_base.specs.MemSource.{IsPiece}
-use Rattle.rd_notes_rows.proofs.asking.push_piece.Goals as goal
+use Rattle.rd_operator_rows.proofs.asking.push_piece.Goals as goal
 
 pub returns : goal.returns
 returns c =

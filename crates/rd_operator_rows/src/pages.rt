@@ -1,10 +1,35 @@
+ghost use Rattle.std.specs.Prelude.{◌≡◌, ◌≤◌, ◌^◌, ◌-◌};
+
 use crate::asking::{ask, gets, shows};
-use crate::keepers::noted;
-use rd_base::{NoMemory, OperatorEnd, PushFault};
+use rd_base::{NoMemory, OperatorEnd, PushFault, SessionNote};
 use rd_board::Board;
 use rd_keeper::{Keeper, MemKeeper, SqlKeeper};
 use std::alloc::Global;
 use std::rt::HostRuntime;
+
+/// The note 1.
+fn noted() -> SessionNote
+    ensures id { result.id ≡ 1 }
+    ensures began { result.began ≤ 2 ^ 63 - 1 }
+    ensures ended { result.ended ≤ 2 ^ 63 - 1 }
+{
+    SessionNote {
+        id: 1,
+        side: 1,
+        dialect: 2,
+        began: 5,
+        ended: i64::MAX as u64,
+        events: u32::MAX,
+        exchanges: 2,
+        masked: 2,
+        code: 15,
+        link: 8,
+        exchange: 6,
+        place: 7,
+        detail: 101,
+        dropped: 4,
+    }
+}
 
 /// Rows of a method, a target, a status and a body, on an empty board and over a keeper without notes.
 fn empty_rows() -> &'static str {
@@ -107,7 +132,7 @@ fn shows_totals<Y: Keeper>(alloc: Global, keeper: &mut Y) -> bool {
         return false;
     };
     board.began();
-    board.note(&noted(1, 2, 4)) && is_so(alloc, &board, keeper, totals_row())
+    board.note(&noted()) && is_so(alloc, &board, keeper, totals_row())
 }
 
 fn totals_row() -> &'static str {
@@ -116,7 +141,7 @@ fn totals_row() -> &'static str {
 
 /// Pages of a note, once it is put.
 fn shows_notes<Y: Keeper>(alloc: Global, board: &Board, keeper: &mut Y) -> bool {
-    keeper.put(&noted(1, 2, 4)).is_ok()
+    keeper.put(&noted()).is_ok()
         && are_so(alloc, board, keeper, noted_rows())
         && shows_totals(alloc, keeper)
 }
