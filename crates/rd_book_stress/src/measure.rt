@@ -1,0 +1,202 @@
+ghost use Rattle.std.specs.Prelude.{◌≡◌};
+
+use crate::spent::{Spent, resident, spent_by};
+use crate::texts::{Found, Texts, look, teach, texts_of};
+use crate::work::{LEARNERS, work};
+use rd_history::{Naming, NewList};
+use rd_shared_book::{Book, BookSeat};
+use std::alloc::{AllocError, AllocGlobal, Global};
+use std::io;
+use std::io::Print;
+use std::rt::Files;
+use std::sync::atomic::{AtomicBool, Ordering};
+use std::sync::{Arc, Wait};
+use std::thread;
+use std::thread::Threads;
+
+/// The rows that a book keeps.
+const ROWS: u32 = 4_096;
+
+/// A number that no seat has.
+const NOBODY: u64 = 99;
+
+/// How often each measure is taken.
+const ROUNDS: u32 = 5;
+
+/// Measures what so many learns and finds of a seat take, by itself, beside 31 that find, and beside 31 that learn and find.
+/// So many kibibytes were held before.
+pub fn measure<
+    J: Naming + Send + Sync + 'static,
+    R: Wait + Threads + Print + Files + AllocGlobal + Copy + Send + Sync + 'static,
+>(
+    rt: R,
+    alloc: Global,
+    list: NewList,
+    before: u64,
+    count: u32,
+) -> io::Result<bool>
+    requires book { list.seen.book ≡ J.book }
+    requires seats { J.seats ≡ 33 }
+{
+    let Ok(mut book) = Book::<J, R>::make(rt, alloc, list, LEARNERS + 1) else {
+        return Ok(false);
+    };
+    let made = resident(&rt)?;
+    let Some(mut own) = book.seat() else {
+        return Ok(false);
+    };
+    let mut seats = Vec::new(alloc);
+    for _ in 1..LEARNERS {
+        if let Some(seat) = book.seat() {
+            seats.push(seat)?;
+        }
+    }
+    for number in 0..ROWS {
+        if !teach(&mut own, &texts_of(alloc, NOBODY, u64::from(number))?) {
+            return Ok(false);
+        }
+    }
+    let full = resident(&rt)?;
+    println!(rt; "memory {} {}", made.saturating_sub(before), full.saturating_sub(before))?;
+    for round in 0..ROUNDS {
+        let from = u64::from(round) << 32;
+        times(&rt, alloc, &mut own, from, count, "alone")?;
+        seats = measure_beside(rt, alloc, &mut own, seats, from + (1 << 30), count, false)?;
+        seats = measure_beside(rt, alloc, &mut own, seats, from + (2 << 30), count, true)?;
+    }
+    Ok(true)
+}
+
+/// The texts of a seat's rows from this number on.
+fn texts_from(alloc: Global, from: u64, count: u32) -> Result<Vec<Texts>, AllocError> {
+    let mut texts = Vec::new(alloc);
+    for number in 0..count {
+        texts.push(texts_of(alloc, NOBODY, from.saturating_add(u64::from(number)))?)?;
+    }
+    Ok(texts)
+}
+
+/// Prints what a learn of this seat takes, a find of a row, and one of a word that no row shows.
+fn times<J: Naming, R: Wait + Print + Files + AllocGlobal + Copy>(
+    rt: &R,
+    alloc: Global,
+    seat: &mut BookSeat<J, R>,
+    from: u64,
+    count: u32,
+    name: &str,
+) -> io::Result<()> {
+    let texts = texts_from(alloc, from, count)?;
+    let others = texts_from(alloc, from.saturating_add(1 << 29), count)?;
+    let first = spent_by(rt)?;
+    for one in &texts {
+        let _is_learnt = teach(seat, one);
+    }
+    let learns = spent_by(rt)?.since(first);
+    print_times(rt, name, "learn", learns, count, u64::from(count))?;
+    for (texts, what) in [(&texts, "row"), (&others, "none")] {
+        let first = spent_by(rt)?;
+        let found = look_up_all(seat, texts.as_slice());
+        let finds = spent_by(rt)?.since(first);
+        print_times(rt, name, what, finds, count, found)?;
+    }
+    Ok(())
+}
+
+/// How many of these are found.
+fn look_up_all<J: Naming, R: Wait + Copy>(seat: &mut BookSeat<J, R>, texts: &[Texts]) -> u64 {
+    let mut found: u64 = 0;
+    for one in texts {
+        if look(seat, one) == Found::Row {
+            found = found.saturating_add(1);
+        }
+    }
+    found
+}
+
+fn print_times<R: Print>(
+    rt: &R,
+    name: &str,
+    what: &str,
+    spent: Spent,
+    count: u32,
+    found: u64,
+) -> io::Result<()> {
+    println!(rt; "{name} {what} {count} {} {} {found}", spent.nanos, spent.waits)
+}
+
+/// What a thread beside the measured one did: how many calls, and how often it waited.
+#[derive(Clone, Copy)]
+struct Beside {
+    calls: u64,
+    waits: u64,
+}
+
+/// Finds until it is told to stop, or learns and finds. Its texts are made before, so that nothing but the book may let it wait.
+fn work_beside<J: Naming, R: Wait + Files + AllocGlobal + Copy>(
+    rt: &R,
+    alloc: Global,
+    seat: &mut BookSeat<J, R>,
+    learns: bool,
+    stop: &Arc<AtomicBool, Global>,
+) -> io::Result<Beside> {
+    if learns {
+        let counts = work(alloc, seat, u64::MAX, stop)?;
+        return Ok(Beside {
+            calls: counts.learns.saturating_add(counts.finds),
+            waits: 0,
+        });
+    }
+    let texts = texts_from(alloc, 0, 64)?;
+    let mut calls: u64 = 0;
+    let first = spent_by(rt)?;
+    for _ in 0..u64::MAX {
+        if stop.load(Ordering::SeqCst) {
+            break;
+        }
+        let _found = look_up_all(seat, texts.as_slice());
+        calls = calls.saturating_add(64);
+    }
+    let waits = spent_by(rt)?.since(first).waits;
+    Ok(Beside { calls, waits })
+}
+
+/// Measures the seat beside the others, and gives them back.
+fn measure_beside<
+    J: Naming + Send + Sync + 'static,
+    R: Wait + Threads + Print + Files + AllocGlobal + Copy + Send + Sync + 'static,
+>(
+    rt: R,
+    alloc: Global,
+    own: &mut BookSeat<J, R>,
+    seats: Vec<BookSeat<J, R>>,
+    from: u64,
+    count: u32,
+    learns: bool,
+) -> io::Result<Vec<BookSeat<J, R>>> {
+    let name = if learns { "learners" } else { "finders" };
+    let stop = Arc::new(alloc, AtomicBool::new(false))?;
+    let mut threads = Vec::new(alloc);
+    let mut back = Vec::new(alloc);
+    for mut seat in seats {
+        let stop = Arc::try_clone(&stop)?;
+        if let Ok(thread) = thread::spawn(&rt, move || {
+            let did = work_beside(&rt, alloc, &mut seat, learns, &stop);
+            (seat, did)
+        }) {
+            threads.push(thread)?;
+        }
+    }
+    times(&rt, alloc, own, from, count, name)?;
+    stop.store(true, Ordering::SeqCst);
+    let mut calls: u64 = 0;
+    let mut waits: u64 = 0;
+    for thread in threads {
+        let (seat, did) = thread.join(&rt);
+        let did = did?;
+        calls = calls.saturating_add(did.calls);
+        waits = waits.saturating_add(did.waits);
+        back.push(seat)?;
+    }
+    println!(rt; "beside {name} {} {calls} {waits}", back.len())?;
+    Ok(back)
+}
