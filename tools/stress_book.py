@@ -13,9 +13,9 @@ another seat. What it finds has to be a row that was learnt, with its own text. 
 then the book has the last 4,096 rows, of each seat its last ones without a gap.
 
 `measure` takes the time that a thread had a processor, which other work on the machine hardly changes, and how often the
-system took a processor from a thread since it waited. The 31 others have their words made before, and only find, beside a
-seat that learns and finds: that none of them waits in all these calls is checked. Beside 31 that learn as well a learn may
-wait for the lock of the writers; that no find waits is checked there too, and what waits there were is printed.
+system took a processor from it since it waited. That no find waits, beside whomever, is checked. A learn may wait for the
+lock of the writers; what waits there were is printed. Then one seat learns and 31 only find for some seconds, and the
+system is asked of each of their threads: that none of the 31 waits meanwhile is checked.
 """
 
 import argparse
@@ -24,6 +24,7 @@ import os
 import statistics
 import subprocess
 import sys
+import time
 
 ROOT = os.path.dirname(os.path.dirname(os.path.abspath(__file__)))
 CRATE = os.path.join(ROOT, "crates", "rd_book_stress")
@@ -31,6 +32,7 @@ PROGRAM = os.path.join(CRATE, "out", "rd_book_stress")
 SEATS = 32
 ROWS = 4096
 MEASURED = 2000
+STAYED = 12
 NAMES = {"alone": "alone", "finders": "beside 31 that find", "learners": "beside 31 that learn and find"}
 
 
@@ -62,12 +64,9 @@ def measure():
     told = run("measure", MEASURED)
     made, full = int(told[0][1]), int(told[0][2])
     print(f"an empty book of {SEATS + 1} seats takes {made:,} KiB, a full one {full:,} KiB")
-    costs, waits, beside = collections.defaultdict(list), collections.Counter(), collections.Counter()
+    costs, waits = collections.defaultdict(list), collections.Counter()
     for words in told[1:]:
-        if words[0] == "beside":
-            beside[words[1], "calls"] += int(words[3])
-            beside[words[1], "waits"] += int(words[4])
-        else:
+        if words[0] != "beside":
             name, what, count, nanos, waited, _ = words
             costs[name, what].append(int(nanos) / int(count))
             waits[name, what] += int(waited)
@@ -77,10 +76,31 @@ def measure():
             ratio = statistics.median(it / one for it, one in zip(costs[name, what], alone))
             print(f"{text} {where}: {statistics.median(costs[name, what]) / 1000:.2f} us of a processor, {ratio:.2f} times alone; "
                   f"{waits[name, what]} waits in {len(alone) * MEASURED:,}")
-    calls, waited = beside["finders", "calls"], beside["finders", "waits"]
-    check(calls > 0 and waited == 0, f"31 seats that find beside one that learns waited {waited} times in {calls:,} finds")
     finds = sum(waits[name, what] for name in NAMES for what in ("row", "none"))
     check(finds == 0, f"the measured finds waited {finds} times, beside whomever")
+    stay()
+
+
+def switches(process):
+    """How often each thread of a process gave its processor up since it waited, but the first: the main one."""
+    told = {}
+    for thread in os.listdir(f"/proc/{process}/task"):
+        with open(f"/proc/{process}/task/{thread}/status", encoding="utf-8") as status:
+            told[int(thread)] = next(int(line.split()[1]) for line in status if line.startswith("voluntary_ctxt_switches"))
+    return [told[thread] for thread in sorted(told)[1:]]
+
+
+def stay():
+    started = subprocess.Popen([PROGRAM, "stay", str(STAYED)], stdout=subprocess.PIPE, text=True)
+    time.sleep(2)
+    first = switches(started.pid)
+    time.sleep(STAYED - 4)
+    last = switches(started.pid)
+    said = started.stdout.read()
+    check(started.wait() == 0 and len(first) == len(last) == SEATS, f"{SEATS} seats made {int(said.split()[2]):,} calls in {STAYED} s")
+    waited = sum(last[1:]) - sum(first[1:])
+    check(waited == 0, f"31 seats that find beside one that learns waited {waited} times")
+    print(f"the one that learns waited {last[0] - first[0]} times")
 
 
 def main():

@@ -8,7 +8,7 @@ mod stress;
 mod texts;
 mod work;
 
-use measure::measure;
+use measure::{measure, stay};
 use rd_history::NewList;
 use spent::resident;
 use std::alloc::AllocError;
@@ -17,8 +17,8 @@ use std::marker::Brand;
 use std::process::ExitCode;
 use stress::stress;
 
-/// The words: `rounds N`, each seat learns so many rows; `seconds N`, for so long; `measure N`, what so many learns and
-/// finds take.
+/// The words: `rounds N`, each seat learns so many rows; `seconds N`, for so long; `stay N`, one seat learns and 31 find,
+/// so many seconds; `measure N`, what so many learns and finds take.
 fn main(rt: HostRuntime) -> ExitCode {
     let words: Vec<String> = match env::args(&rt) {
         Ok(args) => match args.skip(1).collect(rt.alloc()) {
@@ -41,6 +41,7 @@ fn main(rt: HostRuntime) -> ExitCode {
         "seconds" => {
             stress::<Brand, HostRuntime>(rt, rt.alloc(), NewList::new(), u64::MAX, number)
         }
+        "stay" => stay::<Brand, HostRuntime>(rt, rt.alloc(), NewList::new(), number),
         "measure" => {
             let before = resident(&rt).unwrap_or(0);
             measure::<Brand, HostRuntime>(rt, rt.alloc(), NewList::new(), before, number)

@@ -1,6 +1,7 @@
 ghost use Rattle.std.specs.Prelude.{◌≡◌};
 
 use crate::spent::{Spent, resident, spent_by};
+use crate::stress::wait;
 use crate::texts::{Found, Texts, look, teach, texts_of};
 use crate::work::{LEARNERS, work};
 use rd_history::{Naming, NewList};
@@ -22,6 +23,46 @@ const NOBODY: u64 = 99;
 
 /// How often each measure is taken.
 const ROUNDS: u32 = 5;
+
+/// One seat learns and finds beside 31 that find, for so many seconds. Whoever runs it may look at its threads meanwhile: the
+/// first is the learner's.
+pub fn stay<
+    J: Naming + Send + Sync + 'static,
+    R: Wait + Threads + Print + Files + AllocGlobal + Copy + Send + Sync + 'static,
+>(
+    rt: R,
+    alloc: Global,
+    list: NewList,
+    seconds: u32,
+) -> io::Result<bool>
+    requires book { list.seen.book ≡ J.book }
+    requires seats { J.seats ≡ 33 }
+{
+    let Ok(mut book) = Book::<J, R>::make(rt, alloc, list, LEARNERS + 1) else {
+        return Ok(false);
+    };
+    let Some(mut own) = book.seat() else {
+        return Ok(false);
+    };
+    let seats = seats_of(alloc, &mut book, LEARNERS)?;
+    let _seats = run_beside(rt, alloc, &mut own, seats, 1, Task::Wait(seconds))?;
+    Ok(true)
+}
+
+/// So many seats of the book, or all that are left.
+fn seats_of<J: Naming, R: Wait + Copy>(
+    alloc: Global,
+    book: &mut Book<J, R>,
+    count: u8,
+) -> Result<Vec<BookSeat<J, R>>, AllocError> {
+    let mut seats = Vec::new(alloc);
+    for _ in 0..count {
+        if let Some(seat) = book.seat() {
+            seats.push(seat)?;
+        }
+    }
+    Ok(seats)
+}
 
 /// Measures what so many learns and finds of a seat take, by itself, beside 31 that find, and beside 31 that learn and find.
 /// So many kibibytes were held before.
@@ -45,12 +86,7 @@ pub fn measure<
     let Some(mut own) = book.seat() else {
         return Ok(false);
     };
-    let mut seats = Vec::new(alloc);
-    for _ in 1..LEARNERS {
-        if let Some(seat) = book.seat() {
-            seats.push(seat)?;
-        }
-    }
+    let mut seats = seats_of(alloc, &mut book, LEARNERS - 1)?;
     for number in 0..ROWS {
         if !teach(&mut own, &texts_of(alloc, NOBODY, u64::from(number))?) {
             return Ok(false);
@@ -61,8 +97,10 @@ pub fn measure<
     for round in 0..ROUNDS {
         let from = u64::from(round) << 32;
         times(&rt, alloc, &mut own, from, count, "alone")?;
-        seats = measure_beside(rt, alloc, &mut own, seats, from + (1 << 30), count, false)?;
-        seats = measure_beside(rt, alloc, &mut own, seats, from + (2 << 30), count, true)?;
+        let beside = Task::Measure("finders", from + (1 << 30), count);
+        seats = run_beside(rt, alloc, &mut own, seats, 0, beside)?;
+        let beside = Task::Measure("learners", from + (2 << 30), count);
+        seats = run_beside(rt, alloc, &mut own, seats, LEARNERS, beside)?;
     }
     Ok(true)
 }
@@ -124,31 +162,20 @@ fn print_times<R: Print>(
     println!(rt; "{name} {what} {count} {} {} {found}", spent.nanos, spent.waits)
 }
 
-/// What a thread beside the measured one did: how many calls, and how often it waited.
-#[derive(Clone, Copy)]
-struct Beside {
-    calls: u64,
-    waits: u64,
-}
-
-/// Finds until it is told to stop, or learns and finds. Its texts are made before, so that nothing but the book may let it wait.
-fn work_beside<J: Naming, R: Wait + Files + AllocGlobal + Copy>(
-    rt: &R,
+/// How many calls a thread beside the measured one made. It finds until it is told to stop, or learns and finds. What is to be
+/// found is made before.
+fn work_beside<J: Naming, R: Wait + Copy>(
     alloc: Global,
     seat: &mut BookSeat<J, R>,
     learns: bool,
     stop: &Arc<AtomicBool, Global>,
-) -> io::Result<Beside> {
+) -> Result<u64, AllocError> {
     if learns {
         let counts = work(alloc, seat, u64::MAX, stop)?;
-        return Ok(Beside {
-            calls: counts.learns.saturating_add(counts.finds),
-            waits: 0,
-        });
+        return Ok(counts.learns.saturating_add(counts.finds));
     }
     let texts = texts_from(alloc, 0, 64)?;
     let mut calls: u64 = 0;
-    let first = spent_by(rt)?;
     for _ in 0..u64::MAX {
         if stop.load(Ordering::SeqCst) {
             break;
@@ -156,12 +183,19 @@ fn work_beside<J: Naming, R: Wait + Files + AllocGlobal + Copy>(
         let _found = look_up_all(seat, texts.as_slice());
         calls = calls.saturating_add(64);
     }
-    let waits = spent_by(rt)?.since(first).waits;
-    Ok(Beside { calls, waits })
+    Ok(calls)
 }
 
-/// Measures the seat beside the others, and gives them back.
-fn measure_beside<
+/// What is done while other seats are at work: a seat is measured, by this name and from this number of its rows on, or so many
+/// seconds go by.
+#[derive(Clone, Copy)]
+enum Task {
+    Measure(&'static str, u64, u32),
+    Wait(u32),
+}
+
+/// Does this while the seats are at work, of which so many learn as well, and gives them back.
+fn run_beside<
     J: Naming + Send + Sync + 'static,
     R: Wait + Threads + Print + Files + AllocGlobal + Copy + Send + Sync + 'static,
 >(
@@ -169,34 +203,33 @@ fn measure_beside<
     alloc: Global,
     own: &mut BookSeat<J, R>,
     seats: Vec<BookSeat<J, R>>,
-    from: u64,
-    count: u32,
-    learns: bool,
+    learners: u8,
+    task: Task,
 ) -> io::Result<Vec<BookSeat<J, R>>> {
-    let name = if learns { "learners" } else { "finders" };
     let stop = Arc::new(alloc, AtomicBool::new(false))?;
     let mut threads = Vec::new(alloc);
     let mut back = Vec::new(alloc);
     for mut seat in seats {
+        let learns = threads.len() < usize::from(learners);
         let stop = Arc::try_clone(&stop)?;
         if let Ok(thread) = thread::spawn(&rt, move || {
-            let did = work_beside(&rt, alloc, &mut seat, learns, &stop);
-            (seat, did)
+            let calls = work_beside(alloc, &mut seat, learns, &stop);
+            (seat, calls)
         }) {
             threads.push(thread)?;
         }
     }
-    times(&rt, alloc, own, from, count, name)?;
+    match task {
+        Task::Measure(name, from, count) => times(&rt, alloc, own, from, count, name)?,
+        Task::Wait(seconds) => wait(&rt, seconds),
+    }
     stop.store(true, Ordering::SeqCst);
     let mut calls: u64 = 0;
-    let mut waits: u64 = 0;
     for thread in threads {
-        let (seat, did) = thread.join(&rt);
-        let did = did?;
-        calls = calls.saturating_add(did.calls);
-        waits = waits.saturating_add(did.waits);
+        let (seat, made) = thread.join(&rt);
+        calls = calls.saturating_add(made?);
         back.push(seat)?;
     }
-    println!(rt; "beside {name} {} {calls} {waits}", back.len())?;
+    println!(rt; "beside {} {calls}", back.len())?;
     Ok(back)
 }

@@ -67,7 +67,7 @@ pub fn stress<
 }
 
 /// Waits at least so long.
-fn wait<R: Wait>(rt: &R, seconds: u32) {
+pub fn wait<R: Wait>(rt: &R, seconds: u32) {
     let parker = Parker::new();
     for _ in 0..seconds {
         parker.park_timeout(rt, Duration::from_secs(1));

@@ -1,0 +1,2 @@
+mod Stamps
+mod Stops

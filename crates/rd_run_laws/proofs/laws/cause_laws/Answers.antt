@@ -1,0 +1,6 @@
+use Rattle.rd_run_laws.proofs.Stamps.{stamps_are_within}
+use Rattle.rd_run_laws.proofs.Stops.{stops_have_yeses, yeses_have_stops}
+use Rattle.rd_run_laws.proofs.laws.cause_laws.Goals as goal
+
+pub returns : goal.returns
+returns c = record { stamps = stamps_are_within; stops = stops_have_yeses; yeses = yeses_have_stops }
