@@ -12,10 +12,11 @@ Each seat learns rows that no other learns, and finds after each its last one, a
 another seat. What it finds has to be a row that was learnt, with its own text. Behind the end one seat heeds all others:
 then the book has the last 4,096 rows, of each seat its last ones without a gap.
 
-`measure` takes the time that a thread had a processor, which other work on the machine hardly changes, and how often the
-system took a processor from it since it waited. That no find waits, beside whomever, is checked. A learn may wait for the
-lock of the writers; what waits there were is printed. Then one seat learns and 31 only find for some seconds, and the
-system is asked of each of their threads: that none of the 31 waits meanwhile is checked.
+`measure` takes the time that a thread had a processor, which other work on the machine hardly changes, the time that went
+by, and how often the thread gave its processor up to wait. The 31 others pause for a millisecond behind each 64 finds. That
+no find waits, beside whomever, is checked. A learn may wait for the lock of the writers, and for those that are in the midst
+of a find as it publishes. Then one seat learns and 31 find without a pause for some seconds, and the system is asked of each
+of their threads: that none of the 31 waits meanwhile is checked.
 """
 
 import argparse
@@ -67,15 +68,15 @@ def measure():
     costs, waits = collections.defaultdict(list), collections.Counter()
     for words in told[1:]:
         if words[0] != "beside":
-            name, what, count, nanos, waited, _ = words
-            costs[name, what].append(int(nanos) / int(count))
+            name, what, busy, gone_by, waited, _ = words
+            costs[name, what].append((int(busy) / MEASURED / 1000, int(gone_by) / MEASURED / 1000))
             waits[name, what] += int(waited)
     for what, text in (("learn", "a learn"), ("row", "a find of a row"), ("none", "a find of no row")):
-        alone = costs["alone", what]
         for name, where in NAMES.items():
-            ratio = statistics.median(it / one for it, one in zip(costs[name, what], alone))
-            print(f"{text} {where}: {statistics.median(costs[name, what]) / 1000:.2f} us of a processor, {ratio:.2f} times alone; "
-                  f"{waits[name, what]} waits in {len(alone) * MEASURED:,}")
+            busy, gone_by = (statistics.median(it[at] for it in costs[name, what]) for at in (0, 1))
+            ratio = statistics.median(it[0] / one[0] for it, one in zip(costs[name, what], costs["alone", what]))
+            print(f"{text} {where}: {busy:.2f} us of a processor, {ratio:.2f} times alone; {gone_by:.2f} us went by; "
+                  f"{waits[name, what]} waits in {len(costs[name, what]) * MEASURED:,}")
     finds = sum(waits[name, what] for name in NAMES for what in ("row", "none"))
     check(finds == 0, f"the measured finds waited {finds} times, beside whomever")
     stay()

@@ -1,19 +1,19 @@
 ghost use Rattle.std.specs.Prelude.{◌≡◌};
 
-use crate::spent::{Spent, resident, spent_by};
+use crate::spent::{resident, spent_by};
 use crate::stress::wait;
 use crate::texts::{Found, Texts, look, teach, texts_of};
-use crate::work::{LEARNERS, work};
+use crate::work::LEARNERS;
 use rd_history::{Naming, NewList};
 use rd_shared_book::{Book, BookSeat};
 use std::alloc::{AllocError, AllocGlobal, Global};
-use std::io;
 use std::io::Print;
-use std::rt::Files;
+use std::rt::{Clock, Files};
 use std::sync::atomic::{AtomicBool, Ordering};
 use std::sync::{Arc, Wait};
-use std::thread;
-use std::thread::Threads;
+use std::thread::{Parker, Threads};
+use std::time::Duration;
+use std::{io, thread};
 
 /// The rows that a book keeps.
 const ROWS: u32 = 4_096;
@@ -28,13 +28,8 @@ const ROUNDS: u32 = 5;
 /// first is the learner's.
 pub fn stay<
     J: Naming + Send + Sync + 'static,
-    R: Wait + Threads + Print + Files + AllocGlobal + Copy + Send + Sync + 'static,
->(
-    rt: R,
-    alloc: Global,
-    list: NewList,
-    seconds: u32,
-) -> io::Result<bool>
+    R: Wait + Threads + Print + Files + Clock + AllocGlobal + Copy + Send + Sync + 'static,
+>(rt: R, alloc: Global, list: NewList, seconds: u32) -> io::Result<bool>
     requires book { list.seen.book ≡ J.book }
     requires seats { J.seats ≡ 33 }
 {
@@ -68,14 +63,8 @@ fn seats_of<J: Naming, R: Wait + Copy>(
 /// So many kibibytes were held before.
 pub fn measure<
     J: Naming + Send + Sync + 'static,
-    R: Wait + Threads + Print + Files + AllocGlobal + Copy + Send + Sync + 'static,
->(
-    rt: R,
-    alloc: Global,
-    list: NewList,
-    before: u64,
-    count: u32,
-) -> io::Result<bool>
+    R: Wait + Threads + Print + Files + Clock + AllocGlobal + Copy + Send + Sync + 'static,
+>(rt: R, alloc: Global, list: NewList, before: u64, count: u32) -> io::Result<bool>
     requires book { list.seen.book ≡ J.book }
     requires seats { J.seats ≡ 33 }
 {
@@ -93,7 +82,11 @@ pub fn measure<
         }
     }
     let full = resident(&rt)?;
-    println!(rt; "memory {} {}", made.saturating_sub(before), full.saturating_sub(before))?;
+    println!(rt;
+        "memory {} {}",
+        made.saturating_sub(before),
+        full.saturating_sub(before)
+    )?;
     for round in 0..ROUNDS {
         let from = u64::from(round) << 32;
         times(&rt, alloc, &mut own, from, count, "alone")?;
@@ -115,7 +108,7 @@ fn texts_from(alloc: Global, from: u64, count: u32) -> Result<Vec<Texts>, AllocE
 }
 
 /// Prints what a learn of this seat takes, a find of a row, and one of a word that no row shows.
-fn times<J: Naming, R: Wait + Print + Files + AllocGlobal + Copy>(
+fn times<J: Naming, R: Wait + Print + Files + Clock + AllocGlobal + Copy>(
     rt: &R,
     alloc: Global,
     seat: &mut BookSeat<J, R>,
@@ -130,12 +123,12 @@ fn times<J: Naming, R: Wait + Print + Files + AllocGlobal + Copy>(
         let _is_learnt = teach(seat, one);
     }
     let learns = spent_by(rt)?.since(first);
-    print_times(rt, name, "learn", learns, count, u64::from(count))?;
+    print_times(rt, name, "learn", learns, u64::from(count))?;
     for (texts, what) in [(&texts, "row"), (&others, "none")] {
         let first = spent_by(rt)?;
         let found = look_up_all(seat, texts.as_slice());
         let finds = spent_by(rt)?.since(first);
-        print_times(rt, name, what, finds, count, found)?;
+        print_times(rt, name, what, finds, found)?;
     }
     Ok(())
 }
@@ -155,33 +148,47 @@ fn print_times<R: Print>(
     rt: &R,
     name: &str,
     what: &str,
-    spent: Spent,
-    count: u32,
+    spent: (u64, u128, u64),
     found: u64,
 ) -> io::Result<()> {
-    println!(rt; "{name} {what} {count} {} {} {found}", spent.nanos, spent.waits)
+    let (nanos, all_nanos, waits) = spent;
+    println!(rt; "{name} {what} {nanos} {all_nanos} {waits} {found}")
 }
 
-/// How many calls a thread beside the measured one made. It finds until it is told to stop, or learns and finds. What is to be
-/// found is made before.
+/// What a seat does beside others.
+#[derive(Clone, Copy)]
+struct Habit {
+    learns: bool,
+    /// Whether it pauses for a millisecond behind each 64 finds, as sessions that wait for their links do.
+    pauses: bool,
+}
+
+/// How many calls a seat made until it was told to stop. What it finds is made before.
 fn work_beside<J: Naming, R: Wait + Copy>(
+    rt: R,
     alloc: Global,
     seat: &mut BookSeat<J, R>,
-    learns: bool,
+    habit: Habit,
     stop: &Arc<AtomicBool, Global>,
 ) -> Result<u64, AllocError> {
-    if learns {
-        let counts = work(alloc, seat, u64::MAX, stop)?;
-        return Ok(counts.learns.saturating_add(counts.finds));
-    }
-    let texts = texts_from(alloc, 0, 64)?;
+    let texts = texts_from(alloc, u64::from(seat.number()) << 40, 64)?;
+    let parker = Parker::new();
     let mut calls: u64 = 0;
     for _ in 0..u64::MAX {
         if stop.load(Ordering::SeqCst) {
             break;
         }
+        if habit.learns {
+            if let Some(one) = texts.get((calls % 64) as usize) {
+                let _is_learnt = teach(seat, one);
+            }
+            calls = calls.saturating_add(1);
+        }
         let _found = look_up_all(seat, texts.as_slice());
         calls = calls.saturating_add(64);
+        if habit.pauses {
+            parker.park_timeout(&rt, Duration::from_millis(1));
+        }
     }
     Ok(calls)
 }
@@ -197,7 +204,7 @@ enum Task {
 /// Does this while the seats are at work, of which so many learn as well, and gives them back.
 fn run_beside<
     J: Naming + Send + Sync + 'static,
-    R: Wait + Threads + Print + Files + AllocGlobal + Copy + Send + Sync + 'static,
+    R: Wait + Threads + Print + Files + Clock + AllocGlobal + Copy + Send + Sync + 'static,
 >(
     rt: R,
     alloc: Global,
@@ -210,10 +217,13 @@ fn run_beside<
     let mut threads = Vec::new(alloc);
     let mut back = Vec::new(alloc);
     for mut seat in seats {
-        let learns = threads.len() < usize::from(learners);
+        let habit = Habit {
+            learns: threads.len() < usize::from(learners),
+            pauses: matches!(task, Task::Measure(..)),
+        };
         let stop = Arc::try_clone(&stop)?;
         if let Ok(thread) = thread::spawn(&rt, move || {
-            let calls = work_beside(alloc, &mut seat, learns, &stop);
+            let calls = work_beside(rt, alloc, &mut seat, habit, &stop);
             (seat, calls)
         }) {
             threads.push(thread)?;

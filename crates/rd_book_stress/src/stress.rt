@@ -5,13 +5,12 @@ use crate::work::{Counts, LEARNERS, work};
 use rd_history::{Naming, NewList};
 use rd_shared_book::{Book, BookSeat};
 use std::alloc::{AllocError, Global};
-use std::io;
 use std::io::Print;
 use std::sync::atomic::{AtomicBool, Ordering};
 use std::sync::{Arc, Wait};
-use std::thread;
 use std::thread::{Parker, Threads};
 use std::time::Duration;
+use std::{io, thread};
 
 /// The rows that a book keeps.
 const ROWS: u64 = 4_096;
@@ -24,13 +23,7 @@ type Back<J, R> = (BookSeat<J, R>, Result<Counts, AllocError>);
 pub fn stress<
     J: Naming + Send + Sync + 'static,
     R: Wait + Threads + Print + Copy + Send + Sync + 'static,
->(
-    rt: R,
-    alloc: Global,
-    list: NewList,
-    rounds: u64,
-    seconds: u32,
-) -> io::Result<bool>
+>(rt: R, alloc: Global, list: NewList, rounds: u64, seconds: u32) -> io::Result<bool>
     requires book { list.seen.book ≡ J.book }
     requires seats { J.seats ≡ 33 }
 {

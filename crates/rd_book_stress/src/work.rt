@@ -82,7 +82,14 @@ fn work_once<J: Naming, R: Wait + Copy>(
     }
     counts.found(false, found);
     let none = look(seat, &texts_of(alloc, mine, NEVER_LEARNT)?);
-    counts.found(false, if none == Found::Nothing { none } else { Found::Wrong });
+    counts.found(
+        false,
+        if none == Found::Nothing {
+            none
+        } else {
+            Found::Wrong
+        },
+    );
     let other = mine.wrapping_add(round) % u64::from(LEARNERS);
     let theirs = look(seat, &texts_of(alloc, other, round.saturating_sub(BACK))?);
     counts.found(other != mine, theirs);
