@@ -1,2 +1,3 @@
 mod Stamps
 mod Stops
+mod Faults

@@ -104,4 +104,4 @@ stamps_are_within r before after entries told result olds news ran =
     let spans = spans_by ran.base all start (covers_base ran.base before.clock.reach) in
     let same : (fold after_turn start all).clock.span ≡ after.clock.span = ap (λ (o : Outside). o.clock.span) (sym h.asks) in
     subst (λ n. Each (λ (e : LogEntry). e.at ≤ n) entries) same (log_within _ entries (λ l. of l after.gate.taken) told
-        (subst (each_entry _) (sym h.is) (history_within ran.base _ h.turns (within_front ran.base _ h.turns h.given_up spans.within))))
+    (subst (each_entry _) (sym h.is) (history_within ran.base _ h.turns (within_front ran.base _ h.turns h.given_up spans.within))))

@@ -180,12 +180,12 @@ yeses_have_stops r before after entries told result olds news ran other rose =
     let none : h.given_up ≡ [] = none_given_up r ran.base h.turns h.given_up (over_by result ran.back) h.truly.ends other in
     let all : h.turns ++ h.given_up ≡ h.turns = ap (λ us. h.turns ++ us) none ∙ append-nil h.turns in
     let same : after.stopper.yeses ≡ (fold after_turn start h.turns).stopper.yeses =
-        ap (λ (o : Outside). o.stopper.yeses) h.asks ∙ ap (λ ts. (fold after_turn start ts).stopper.yeses) all in
+    ap (λ (o : Outside). o.stopper.yeses) h.asks ∙ ap (λ ts. (fold after_turn start ts).stopper.yeses) all in
     let logged : has_stop entries ≡ any_stop h.turns =
-        sym (log_says entries (λ l. of l after.gate.taken) told) ∙ ap says h.is ∙ turns_say ran.base h.turns in
+    sym (log_says entries (λ l. of l after.gate.taken) told) ∙ ap says h.is ∙ turns_say ran.base h.turns in
     elim (true_or (any_stop h.turns)) [
       | inl told ↦ logged ∙ told
       | inr not_told ↦
-        let still : (fold after_turn start h.turns).stopper.yeses ≡ before.stopper.yeses = still_by h.turns start not_told in
-        absurd (omega (arith, rose, same, still))
+          let still : (fold after_turn start h.turns).stopper.yeses ≡ before.stopper.yeses = still_by h.turns start not_told in
+          absurd (omega (arith, rose, same, still))
     ]
