@@ -12,8 +12,8 @@ Each seat learns rows that no other learns, and finds after each its last one, a
 another seat. What it finds has to be a row that was learnt, with its own text. Behind the end one seat heeds all others:
 then the book has the last 4,096 rows, of each seat its last ones without a gap.
 
-`measure` takes the time that a thread had a processor, which other work on the machine hardly changes, the time that went
-by, and how often the thread gave its processor up to wait. The 31 others pause for a millisecond behind each 64 finds. That
+`measure` takes the time that went by, the time that the thread had a processor, which other work on the machine hardly
+changes but which the system counts coarsely, and how often the thread gave its processor up to wait. The 31 others pause for 20 milliseconds behind each 64 finds. That
 no find waits, beside whomever, is checked. A learn may wait for the lock of the writers, and for those that are in the midst
 of a find as it publishes. Then one seat learns and 31 find without a pause for some seconds, and the system is asked of each
 of their threads: that none of the 31 waits meanwhile is checked.
@@ -32,7 +32,7 @@ CRATE = os.path.join(ROOT, "crates", "rd_book_stress")
 PROGRAM = os.path.join(CRATE, "out", "rd_book_stress")
 SEATS = 32
 ROWS = 4096
-MEASURED = 2000
+MEASURED = 4000
 STAYED = 12
 NAMES = {"alone": "alone", "finders": "beside 31 that find", "learners": "beside 31 that learn and find"}
 
@@ -73,9 +73,10 @@ def measure():
             waits[name, what] += int(waited)
     for what, text in (("learn", "a learn"), ("row", "a find of a row"), ("none", "a find of no row")):
         for name, where in NAMES.items():
-            busy, gone_by = (statistics.median(it[at] for it in costs[name, what]) for at in (0, 1))
-            ratio = statistics.median(it[0] / one[0] for it, one in zip(costs[name, what], costs["alone", what]))
-            print(f"{text} {where}: {busy:.2f} us of a processor, {ratio:.2f} times alone; {gone_by:.2f} us went by; "
+            busy = statistics.mean(it[0] for it in costs[name, what])
+            gone_by = statistics.median(it[1] for it in costs[name, what])
+            ratio = statistics.median(it[1] / one[1] for it, one in zip(costs[name, what], costs["alone", what]))
+            print(f"{text} {where}: {gone_by:.2f} us, {ratio:.2f} times alone; {busy:.2f} us of a processor; "
                   f"{waits[name, what]} waits in {len(costs[name, what]) * MEASURED:,}")
     finds = sum(waits[name, what] for name in NAMES for what in ("row", "none"))
     check(finds == 0, f"the measured finds waited {finds} times, beside whomever")

@@ -159,7 +159,7 @@ fn print_times<R: Print>(
 #[derive(Clone, Copy)]
 struct Habit {
     learns: bool,
-    /// Whether it pauses for a millisecond behind each 64 finds, as sessions that wait for their links do.
+    /// Whether it pauses for 20 milliseconds behind each 64 finds, as sessions that wait for their links do.
     pauses: bool,
 }
 
@@ -187,7 +187,7 @@ fn work_beside<J: Naming, R: Wait + Copy>(
         let _found = look_up_all(seat, texts.as_slice());
         calls = calls.saturating_add(64);
         if habit.pauses {
-            parker.park_timeout(&rt, Duration::from_millis(1));
+            parker.park_timeout(&rt, Duration::from_millis(20));
         }
     }
     Ok(calls)

@@ -25,8 +25,8 @@ pub enum Found {
 /// Those of a seat's learn of this number.
 pub fn texts_of(alloc: Global, seat: u64, number: u64) -> Result<Texts, AllocError> {
     Ok(Texts {
-        shown: format!(in alloc; "shown-word-of-{seat}-{number}-of-the-first")?,
-        own: format!(in alloc; "own-word-of-{seat}-{number}-of-the-second")?,
+        shown: format!(in alloc; "shown-word-of-the-first-{seat}-{number}")?,
+        own: format!(in alloc; "own-word-of-the-second-{seat}-{number}")?,
     })
 }
 
