@@ -1,11 +1,11 @@
 -- A failed write stands in a log only where the count of its sink rose.
-use Rattle.std.specs.Prelude.{◌≡◌, ℕ, ◌-◌, ◌^◌, ◌≤◌, ◌<◌, ◌||◌, ◌==◌, length, drop, Bool, true, false, List, [], ◌∷◌, ◌++◌, Option, Some, None}
-use Rattle.std.specs.List.{list_any, flat_map}
+use Rattle.std.specs.Prelude.{◌≡◌, ℕ, ◌≤◌, ◌||◌, ◌==◌, drop, Bool, true, false, List, [], ◌∷◌, Option, Some, None}
+use Rattle.std.specs.List.{list_any}
 use Rattle.std.proofs.Common.{refl, sym, ap, ◌∙◌, subst, arith, true≢false, inl, inr}
 use Rattle.std.proofs.lemmas.Bool.{eqb-true}
 use Rattle.std.proofs.lemmas.List.Folds.{list_any-append}
 use Rattle.rd_base.specs.Outside.{SinkTold, Rose}
-use Rattle.rd_base.specs.History.{History, Entry, Row, write_fails}
+use Rattle.rd_base.specs.History.{History, Row, write_fails}
 use Rattle.rd_base.specs.declared.values.Link.{Link}
 use Rattle.rd_rules.specs.Exchange.{Rules}
 use Rattle.rd_gate.specs.declared.item.Item.{Item}
@@ -18,7 +18,6 @@ use Rattle.rd_turn.specs.Turns.{Did, Took, Looked, Stopped, Turn, stamp, step_of
 use Rattle.rd_turn.specs.Drawn.{draw, left_by, first_heard, what_of}
 use Rattle.rd_turn.specs.Sinks.{sink_at}
 use Rattle.rd_turn.specs.Runs.{FailsLast, WroteSent}
-use Rattle.rd_run.specs.Ran.{SessionRan}
 use Rattle.rd_run.specs.Leaving.{AllClosed}
 use Rattle.rd_run_laws.specs.Causes.{is_write_fail, has_write_fail, RoseToLast, WriteFailsHaveFaults}
 

@@ -1,16 +1,16 @@
 -- The stamps of a log's entries are within the clock's span.
-use Rattle.std.specs.Prelude.{◌≡◌, ℕ, ◌+◌, ◌-◌, ◌≤◌, min, max, fold, drop, true, false, List, [], ◌∷◌, ◌++◌, Option, Some, None}
+use Rattle.std.specs.Prelude.{◌≡◌, ℕ, ◌-◌, ◌≤◌, max, fold, drop, true, false, List, [], ◌∷◌, ◌++◌, Option, Some, None}
 use Rattle.std.specs.List.{AllByRecursion as Each}
 use Rattle.std.proofs.Common.{sym, ap, subst, arith}
 use Rattle.rd_base.specs.Clocks.{Reach, reach_with, width}
-use Rattle.rd_base.specs.History.{History, Entry, Row}
+use Rattle.rd_base.specs.History.{History, Row}
 use Rattle.rd_base.specs.declared.values.Link.{Link}
 use Rattle.rd_gate.specs.declared.item.Item.{Item}
 use Rattle.rd_gate.specs.Gate.{of}
 use Rattle.rd_turn.specs.declared.log.LogEntry.{LogEntry}
 use Rattle.rd_turn.specs.Turns.{Did, Took, Looked, Stopped, Turn, Outside, after_turn, stamp, step_of, failure, turn_entries, history_of, told_in}
 use Rattle.rd_turn.specs.Drawn.{draw, left_by}
-use Rattle.rd_run.specs.Ran.{SessionRan, with_base}
+use Rattle.rd_run.specs.Ran.{with_base}
 use Rattle.rd_run_laws.specs.Causes.{StampsAreWithin}
 
 -- ---- the span

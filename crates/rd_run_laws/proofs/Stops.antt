@@ -1,12 +1,12 @@
 -- A Stop stands in a log exactly where the stopper's yeses rose.
-use Rattle.std.specs.Prelude.{◌≡◌, ◌≢◌, ℕ, ◌+◌, ◌-◌, ◌^◌, ◌≤◌, ◌<◌, ◌||◌, min, fold, drop, Bool, true, false, if◌then◌else◌, List, [], ◌∷◌, ◌++◌, Option, Some, None, ◌⊎◌}
-use Rattle.std.specs.List.{list_any, flat_map}
+use Rattle.std.specs.Prelude.{◌≡◌, ◌≢◌, ℕ, ◌-◌, ◌^◌, ◌≤◌, ◌||◌, fold, drop, Bool, true, false, if◌then◌else◌, List, [], ◌∷◌, ◌++◌, Option, Some, None, ◌⊎◌}
+use Rattle.std.specs.List.{list_any}
 use Rattle.std.proofs.Common.{refl, sym, ap, ◌∙◌, subst, arith, true≢false, inl, inr, append-nil}
 use Rattle.std.proofs.lemmas.Bool.{cases_lt}
 use Rattle.std.proofs.lemmas.List.Folds.{list_any-append}
 use Rattle.rd_base.specs.Counts.{counted}
 use Rattle.rd_base.specs.Outside.{Rose}
-use Rattle.rd_base.specs.History.{History, Entry, Row, is_stop as stops}
+use Rattle.rd_base.specs.History.{History, Row, is_stop as stops}
 use Rattle.rd_base.specs.declared.values.Link.{Link}
 use Rattle.rd_base.specs.declared.values.Ending.TheVariants.{NoMemory}
 use Rattle.rd_rules.specs.Exchange.{Rules}
@@ -20,7 +20,7 @@ use Rattle.rd_turn.specs.declared.running.Over.{Over}
 use Rattle.rd_turn.specs.Turns.{Did, Took, Looked, Stopped, Turn, Outside, after_turn, is_stop as told_to_stop, stamp, step_of, failure, turn_entries, history_of, told_in}
 use Rattle.rd_turn.specs.Drawn.{draw, left_by, first_heard, what_of}
 use Rattle.rd_turn.specs.Runs.{EndsBy}
-use Rattle.rd_run.specs.Ran.{SessionRan, with_base, over_by}
+use Rattle.rd_run.specs.Ran.{with_base, over_by}
 use Rattle.rd_run_laws.specs.Causes.{is_stop, has_stop, StopsHaveYeses, YesesHaveStops}
 
 -- ---- the stops of a log, of its history and of its turns
