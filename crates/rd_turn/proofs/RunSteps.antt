@@ -23,7 +23,7 @@ use Rattle.rd_turn.specs.declared.running.Counts.{Counts}
 use Rattle.rd_turn.specs.Sinks.{AreOpen, sink_at, Wrote, Broke, AllWrote, WroteTo}
 use Rattle.rd_turn.specs.Acts.{WroteStep, WroteTurn, Goes, Went, GaveUp}
 use Rattle.rd_turn.specs.Turns.{Turn, Did, Took, Looked, Stopped, Outside, after_turn, stamp, entry_at, step_of, failure, told_in, turn_entries, turn_step, history_of, told_of, logged, rules_by, IsInTime, AreTimely, IsAmong, AreAmong, item_taken}
-use Rattle.rd_turn.specs.Runs.{AreCounts, BrokeOff, WroteSent, EndsBy, Truly, HasRun, Runs, RunsTruly}
+use Rattle.rd_turn.specs.Runs.{AreCounts, BrokeOff, FailsLast, WroteSent, EndsBy, Truly, HasRun, Runs, RunsTruly}
 use Rattle.rd_turn.proofs.Asked.{map_snoc}
 use Rattle.rd_rules.proofs.FailedWrites.{failed_final}
 use Rattle.rd_rules.proofs.QuietWrites.{sent_same, exchanges_same, masked_same}
@@ -69,6 +69,11 @@ timely_snoc r base h (s ∷ turns) t all one = (
 among_snoc : (n : ℕ) (turns : List Turn) (t : Turn) → AreAmong n turns → IsAmong n t.failed → AreAmong n (turns ++ t ∷ [])
 among_snoc n [] t all one = (one, tt)
 among_snoc n (s ∷ turns) t all one = (all.0, among_snoc n turns t all.1 one)
+
+fails_snoc : (turns : List Turn) (t : Turn) (failed : Option Link) → FailsLast turns None → t.failed ≡ failed → FailsLast (turns ++ t ∷ []) failed
+fails_snoc [] t failed none last = last
+fails_snoc (s ∷ []) t failed none last = (none, last)
+fails_snoc (s ∷ u ∷ turns) t failed none last = (none.0, fails_snoc (u ∷ turns) t failed none.1 last)
 
 -- ---- what is written
 
@@ -190,6 +195,7 @@ runs_on r base o1 o2 o3 log log' told told' at at' olds mids news t h more w fin
       turns = h.turns ++ t ∷ [];
       asks = asks_more o1 o2 o3 h.turns t h.asks more;
       among = among_snoc (r.limits.copies + 1) h.turns t h.among w.among;
+      fails = fails_snoc h.turns t None h.fails fine;
       log = log_more base h.turns t log log' h.log w.log;
       rows = told_more h.turns t told told' h.rows w.rows;
       truly = λ well.
@@ -218,6 +224,7 @@ runs_out r base o1 o2 log told at olds news end counts h ends counted = record {
   rows = h.rows;
   truly = λ well. let was = h.truly (ap (λ ts. is_well_formed r.limits.copies (history_of base ts)) (sym (append-nil h.turns)) ∙ well) in record {
     timely = was.timely;
+    fails = h.fails;
     wrote = was.wrote;
     ends = (sym (ends (history_of base h.turns) was.stands), refl);
     counts = counted (history_of base h.turns) was.stands;
@@ -258,6 +265,7 @@ runs_off r base o1 o2 o3 log log' told told' at at' olds mids news t w seen end 
           let link : w.0 < r.limits.copies + 1 = (let b = broke.is_link in omega (arith, b, size)) in
           record {
             timely = timely_snoc r base [] h.turns t was.timely goes.timely;
+            fails = fails_snoc h.turns t (Some w) h.fails fault;
             wrote = subst (λ g. BrokeOff r g w olds news) (sym grown) broke;
             ends = (ap (final r) grown ∙ failed_final r (so_far ++ turn_step base t) (stamp base t) w link ∙ ap (λ o. or_else o (Some (LinkFault w))) (sym (sees (so_far ++ turn_step base t) goes.stands)) ∙ sym ends, refl);
             counts = subst (λ g. AreCounts r g counts) (sym grown) (counts_same r (so_far ++ turn_step base t) (stamp base t) w counts (counted (so_far ++ turn_step base t) goes.stands));
@@ -287,6 +295,7 @@ runs_up r base o1 o2 o3 log log' told told' at olds mids news t over h more gave
           let was = h.truly (front_follows r.limits.copies [] so_far (turn_step base t) well_step) in
           record {
             timely = was.timely;
+            fails = subst (FailsLast h.turns) (sym fine) h.fails;
             wrote = subst (λ o. WroteSent r so_far o olds news) (sym fine) (subst (AllWrote (λ l. sent r l so_far) olds) (sym gave.sinks) was.wrote);
             ends = (ending, gave.back, fine, refl, gave.begins so_far well_step was.stands);
             counts = counted so_far was.stands;
@@ -300,6 +309,7 @@ runs_start r base o log told at sinks none untold begins unsent = record {
   turns = [];
   asks = refl;
   among = tt;
+  fails = refl;
   log = none;
   rows = untold;
   truly = λ well. record { timely = tt; stands = begins; wrote = unsent };

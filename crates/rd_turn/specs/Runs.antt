@@ -45,9 +45,16 @@ pub record AreCounts (r : Rules) (h : History) (c : Counts) : Type 0 where
   pub exchanges : c.exchanges ≡ exchanges r h
   pub masked : c.masked ≡ masked r h
 
+-- no write failed but that of the last of these turns, to this link
+abbrev pub FailsLast : List Turn → Option Link → Type 0
+FailsLast [] failed = failed ≡ None
+FailsLast (t ∷ []) failed = t.failed ≡ failed
+FailsLast (t ∷ u ∷ turns) failed = (t.failed ≡ None) × FailsLast (u ∷ turns) failed
+
 -- what is true of a well-formed history
 pub record Truly (r : Rules) (base : ℕ) (turns given_up : List Turn) (over : Over) (olds news : List SinkTold) : Type 0 where
   pub timely : AreTimely r base [] turns
+  pub fails : FailsLast turns over.failed
   pub wrote : WroteSent r (history_of base turns) over.failed olds news
   pub ends : EndsBy r base (history_of base turns) given_up over
   pub counts : AreCounts r (history_of base turns) over.counts
@@ -72,6 +79,7 @@ pub record Runs (r : Rules) (base : ℕ) (before after : Outside) (entries : Lis
   pub turns : List Turn
   pub asks : after ≡ fold after_turn before turns
   pub among : AreAmong (r.limits.copies + 1) turns
+  pub fails : FailsLast turns None
   pub log : entries ≡ map logged (history_of base turns)
   pub rows : told ≡ told_of turns
   pub truly : is_well_formed r.limits.copies (history_of base turns) ≡ true → RunsTruly r base turns at olds news
