@@ -1,9 +1,10 @@
 -- What sessions leave on a desk, and what the keeper has of it in the end.
-use Rattle.std.specs.Prelude.{◌≡◌, ◌⊎◌, ℕ, List, [], ◌++◌, Option, Some, None, option_map, option_to_list, unwrap_or, map, fold}
+use Rattle.std.specs.Prelude.{◌≡◌, ◌≤◌, ◌⊎◌, ℕ, List, [], ◌++◌, Option, Some, None, option_map, option_to_list, unwrap_or, map, fold}
 use Rattle.rd_base.specs.declared.session_note.SessionNote.{SessionNote}
 use Rattle.rd_base.specs.declared.values.Side.{Side}
 use Rattle.rd_base.specs.Outside.{Rose}
 use Rattle.rd_board.specs.declared.latest.BoardNote.{BoardNote}
+use Rattle.rd_board.specs.Board.{capped}
 use Rattle.rd_board.specs.Notes.{latest}
 use Rattle.rd_board.specs.Calls.{Call, accepted}
 use Rattle.rd_doors.specs.Visits.{without}
@@ -34,6 +35,10 @@ abbrev pub AddsNone : DeskView → DeskView → Type 0
 AddsNone before after =
     (start : Start) (notes : List SessionNote) (keeper : KeeperTold)
     → HasNoted start notes before keeper → HasNoted start notes after keeper
+
+-- no fewer notes have left the board unkept; their number stands still at its greatest value
+abbrev pub StillUnkept : DeskView → DeskView → Type 0
+StillUnkept before after = capped before.board.unkept ≤ after.board.unkept
 
 -- the note that a session leaves which began so: none without an id
 abbrev pub note_left : Begun → Side → ℕ → ℕ → Summary → List SessionNote

@@ -1,7 +1,7 @@
 ghost use Rattle.std.specs.Prelude.{◌≡◌, ◌<◌, ◌≤◌, ◌-◌, ◌^◌, IfSome, length};
 ghost use Rattle.rd_base.specs.Clocks.{Ticks};
 ghost use Rattle.rd_desk.specs.Desk.{Begins};
-ghost use Rattle.rd_desk.specs.Noted.{Adds, AddsNone, note_left, without_id};
+ghost use Rattle.rd_desk.specs.Noted.{Adds, AddsNone, StillUnkept, note_left, without_id};
 ghost use Rattle.rd_doors.specs.Visits.{Holds};
 
 use crate::{Desk, session_note};
@@ -46,6 +46,7 @@ pub fn end_session<C: Clock>(
     ensures note { Adds (note_left begun side dialect result summary.now) desk.old desk.new }
     ensures ids { desk.new.ids ≡ without_id begun.id desk.old.ids }
     ensures drawn { desk.new.board.drawn ≡ desk.old.board.drawn }
+    ensures let_go { StillUnkept desk.old desk.new }
     ensures at { Ticks result (C.tells clock.old) (C.tells clock.new) }
 {
     let ended = clock.now();
@@ -60,6 +61,7 @@ fn leave_note(desk: &mut Desk, begun: Begun, side: Side, dialect: u8, ended: u64
     ensures note { Adds (note_left begun side dialect ended summary.now) desk.old desk.new }
     ensures ids { desk.new.ids ≡ without_id begun.id desk.old.ids }
     ensures drawn { desk.new.board.drawn ≡ desk.old.board.drawn }
+    ensures let_go { StillUnkept desk.old desk.new }
 {
     match begun.id {
         Some(id) => {
