@@ -7,4 +7,4 @@ mod runner;
 
 pub use laws::run_laws;
 pub use left::SessionLeft;
-pub use runner::{SessionRunner, another_runner, run_visit, take_in_runner};
+pub use runner::{SessionRunner, another_runner, dialect_of, run_visit, take_in_runner};

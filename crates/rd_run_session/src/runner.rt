@@ -16,20 +16,21 @@ use rd_conf::DialectName;
 use rd_dialect::{Dialect, Line};
 use rd_doors::{Ends, Run};
 use rd_http_tokens::Http;
+use rd_lent_book::LentBook;
 use rd_pg_tokens::Pg;
 use rd_run::{run_in, run_out, run_unmade};
 use rd_runner::Ended;
 use rd_start::Spawner;
-use rd_token_map::NoBook;
+use rd_token_map::TokenBook;
 use std::alloc::Global;
 use std::marker::Model;
 use std::sync::Wait;
 use std::thread::Threads;
 
-/// Runs sessions by settings: each in the dialect that they name for its side, with a clock, a stopper and a spawner
-/// that it keeps.
+/// Runs sessions by settings: each in the dialect that they name for its side, with a clock, a stopper, a spawner and a
+/// book of rows that it keeps.
 #[derive(Drop)]
-pub struct SessionRunner<P: Spawner, C: Clock, Q: Stopper, R: Wait + Threads + Copy> {
+pub struct SessionRunner<P: Spawner, C: Clock, Q: Stopper, B: LentBook, R: Wait + Threads + Copy> {
     rt: R,
     alloc: Global,
     limits: Limits,
@@ -39,10 +40,11 @@ pub struct SessionRunner<P: Spawner, C: Clock, Q: Stopper, R: Wait + Threads + C
     spawner: P,
     clock: C,
     stop: Q,
+    book: B,
 }
 
-impl<P: Spawner, C: Clock, Q: Stopper, R: Wait + Threads + Copy> Model
-    for SessionRunner<P, C, Q, R> {
+impl<P: Spawner, C: Clock, Q: Stopper, B: LentBook, R: Wait + Threads + Copy> Model
+    for SessionRunner<P, C, Q, B, R> {
     ghost Value = { RunnerTold };
 
     ghost view = { λ r. record {
@@ -65,8 +67,15 @@ fn copy_of(alloc: Global, rules: &NameRules) -> Result<NameRules, NoMemory>
     })
 }
 
-impl<P: Spawner, C: Clock, Q: Stopper, R: Wait + Threads + Copy> SessionRunner<P, C, Q, R> {
-    /// A runner by these limits, dialects and rules of names, whose spawner and stopper have counted nothing yet.
+impl<P: Spawner, C: Clock, Q: Stopper, B: LentBook, R: Wait + Threads + Copy> SessionRunner<
+    P,
+    C,
+    Q,
+    B,
+    R,
+> {
+    /// A runner by these limits, dialects and rules of names, whose spawner and stopper have counted nothing yet. Sessions
+    /// of clients ask and tell the book.
     pub fn new(
         rt: R,
         alloc: Global,
@@ -77,7 +86,8 @@ impl<P: Spawner, C: Clock, Q: Stopper, R: Wait + Threads + Copy> SessionRunner<P
         spawner: P,
         clock: C,
         stop: Q,
-    ) -> SessionRunner<P, C, Q, R>
+        book: B,
+    ) -> SessionRunner<P, C, Q, B, R>
         requires limits { AreLimits limits }
         requires refusals { (P.tells spawner).refusals ≡ 0 }
         requires yeses { (Q.tells stop).yeses ≡ 0 }
@@ -98,11 +108,12 @@ impl<P: Spawner, C: Clock, Q: Stopper, R: Wait + Threads + Copy> SessionRunner<P
             spawner,
             clock,
             stop,
+            book,
         }
     }
 
-    /// The spawner, the clock and the stopper that it kept, with what they counted.
-    pub fn into_parts(self) -> (P, C, Q)
+    /// The spawner, the clock, the stopper and the book that it kept, with what they counted and saw.
+    pub fn into_parts(self) -> (P, C, Q, B)
         ensures refusals { capped (P.tells result.0).refusals ≡ self.refusals }
         ensures span { (C.tells result.1).span ≡ self.span }
         ensures yeses { (Q.tells result.2).yeses ≡ self.yeses }
@@ -117,8 +128,9 @@ impl<P: Spawner, C: Clock, Q: Stopper, R: Wait + Threads + Copy> SessionRunner<P
             spawner,
             clock,
             stop,
+            book,
         } = self;
-        (spawner, clock, stop)
+        (spawner, clock, stop, book)
     }
 }
 
@@ -130,6 +142,7 @@ fn run_by<
     P: Spawner,
     C: Clock,
     Q: Stopper,
+    B: TokenBook,
     R: Wait + Threads + Copy + Send + Sync + 'static,
 >(
     rt: R,
@@ -141,6 +154,7 @@ fn run_by<
     spawner: &mut P,
     clock: &mut C,
     stop: &mut Q,
+    book: &mut B,
 ) -> Ended<S, K, SessionLeft<R>>
     requires limits { AreLimits limits }
     requires fresh { AreFresh limits.copies (ends_told S.tells K.tells ends) }
@@ -160,13 +174,13 @@ fn run_by<
     } = ends;
     match side {
         Side::Incoming => {
-            let mut book = NoBook;
             let run = run_in(
-                rt, alloc, dialect, limits, sources, &mut sinks, spawner, clock, stop, &mut book,
+                rt, alloc, dialect, limits, sources, &mut sinks, spawner, clock, stop, book,
             );
             ended(run, sinks)
         }
         Side::Outgoing => {
+            let _ = book;
             let run = run_out(
                 rt, alloc, dialect, limits, sources, &mut sinks, spawner, clock, stop,
             );
@@ -230,9 +244,10 @@ pub fn run_visit<
     P: Spawner,
     C: Clock,
     Q: Stopper,
+    B: LentBook,
     R: Wait + Threads + Copy + Send + Sync + 'static,
 >(
-    runner: &mut SessionRunner<P, C, Q, R>,
+    runner: &mut SessionRunner<P, C, Q, B, R>,
     alloc: Global,
     side: Side,
     ends: Ends<S, K>,
@@ -252,14 +267,19 @@ pub fn run_visit<
         spawner,
         clock,
         stop,
+        book,
     } = runner;
     match dialect_on(side, *incoming, *outgoing) {
         DialectName::Line => {
-            return run_by(*rt, alloc, Line, *limits, side, ends, spawner, clock, stop);
+            return run_by(
+                *rt, alloc, Line, *limits, side, ends, spawner, clock, stop, book,
+            );
         }
         DialectName::Http => match Http::new(alloc, side, rules) {
             Ok(http) => {
-                return run_by(*rt, alloc, http, *limits, side, ends, spawner, clock, stop);
+                return run_by(
+                    *rt, alloc, http, *limits, side, ends, spawner, clock, stop, book,
+                );
             }
             Err(_) => {
                 return run_none(alloc, *limits, side, ends);
@@ -267,12 +287,27 @@ pub fn run_visit<
         },
         DialectName::Pg => match Pg::new(alloc, side, rules) {
             Ok(pg) => {
-                return run_by(*rt, alloc, pg, *limits, side, ends, spawner, clock, stop);
+                return run_by(
+                    *rt, alloc, pg, *limits, side, ends, spawner, clock, stop, book,
+                );
             }
             Err(_) => {
                 return run_none(alloc, *limits, side, ends);
             }
         },
+    }
+}
+
+/// The dialect in which it runs sessions of this side.
+pub fn dialect_of<P: Spawner, C: Clock, Q: Stopper, B: LentBook, R: Wait + Threads + Copy>(
+    runner: &SessionRunner<P, C, Q, B, R>,
+    side: Side,
+) -> DialectName
+    ensures { result ≡ dialect_on side runner.now.setup }
+{
+    match side {
+        Side::Incoming => runner.incoming,
+        Side::Outgoing => runner.outgoing,
     }
 }
 
@@ -286,11 +321,12 @@ fn dialect_on(side: Side, incoming: DialectName, outgoing: DialectName) -> Diale
     }
 }
 
-/// A further runner by the same settings, which counts from 0. None where memory runs out.
-pub fn another_runner<P: Spawner, C: Clock, Q: Stopper, R: Wait + Threads + Copy>(
-    runner: &SessionRunner<P, C, Q, R>,
-) -> Option<SessionRunner<P, C, Q, R>>
-    ensures { IfSome result (λ other. IsAnother runner.now other) }
+/// A further runner by the same settings, which counts from 0. None where memory runs out or no book can be lent.
+pub fn another_runner<P: Spawner, C: Clock, Q: Stopper, B: LentBook, R: Wait + Threads + Copy>(
+    runner: &mut SessionRunner<P, C, Q, B, R>,
+) -> Option<SessionRunner<P, C, Q, B, R>>
+    ensures other { IfSome result (λ other. IsAnother runner.old other) }
+    ensures same { runner.new ≡ runner.old }
 {
     let SessionRunner {
         rt,
@@ -302,27 +338,28 @@ pub fn another_runner<P: Spawner, C: Clock, Q: Stopper, R: Wait + Threads + Copy
         spawner,
         clock,
         stop,
+        book,
     } = runner;
-    match copy_of(*alloc, rules) {
-        Ok(rules) => Some(SessionRunner::new(
-            *rt,
-            *alloc,
-            *limits,
-            *incoming,
-            *outgoing,
-            rules,
-            spawner.another(),
-            clock.another(),
-            stop.another(),
-        )),
-        Err(_) => None,
-    }
+    let rules = copy_of(*alloc, rules).ok()?;
+    let book = book.another()?;
+    Some(SessionRunner::new(
+        *rt,
+        *alloc,
+        *limits,
+        *incoming,
+        *outgoing,
+        rules,
+        spawner.another(),
+        clock.another(),
+        stop.another(),
+        book,
+    ))
 }
 
-/// Takes in the counts and the span of a runner that is no longer used.
-pub fn take_in_runner<P: Spawner, C: Clock, Q: Stopper, R: Wait + Threads + Copy>(
-    runner: &mut SessionRunner<P, C, Q, R>,
-    other: SessionRunner<P, C, Q, R>,
+/// Takes in the counts, the span and the book of a runner that is no longer used.
+pub fn take_in_runner<P: Spawner, C: Clock, Q: Stopper, B: LentBook, R: Wait + Threads + Copy>(
+    runner: &mut SessionRunner<P, C, Q, B, R>,
+    other: SessionRunner<P, C, Q, B, R>,
 )
     ensures { TakesIn other runner.old runner.new }
 {
@@ -336,6 +373,7 @@ pub fn take_in_runner<P: Spawner, C: Clock, Q: Stopper, R: Wait + Threads + Copy
         spawner: their_spawner,
         clock: their_clock,
         stop: their_stop,
+        book: their_book,
     } = other;
     let SessionRunner {
         rt: _,
@@ -347,8 +385,10 @@ pub fn take_in_runner<P: Spawner, C: Clock, Q: Stopper, R: Wait + Threads + Copy
         spawner,
         clock,
         stop,
+        book,
     } = runner;
     spawner.join_in(their_spawner);
     clock.join_in(their_clock);
     stop.join_in(their_stop);
+    book.join_in(their_book);
 }

@@ -5,16 +5,11 @@ use Rattle.rd_doors.specs.Visits.{EndsTold, RunTold, Entry, entries_with, out_fr
 use Rattle.rd_doors.specs.Calls.{DoorsTold}
 use Rattle.rd_runner.specs.Runs.{Setup}
 use Rattle.rd_serve.specs.Serving.{IsRight, EachRight, IsServed, Tells, Has}
-use Rattle.rd_serve.specs.Sessions.{KeepsTold}
+use Rattle.rd_serve.specs.Sessions.{KeepsTold, Goes}
 
 pub out_from_more : {L : Type 0} (out : List ℕ) (t : List (Entry L)) (e : Entry L) → out_from out (t ++ e ∷ []) ≡ out_after e (out_from out t)
 out_from_more out [] e = refl
 out_from_more out (x ∷ t) e = out_from_more (out_after x out) t e
-
-pub has_more : {L : Type 0} (e x : Entry L) (t : List (Entry L)) → Has e t → Has e (t ++ x ∷ [])
-has_more e x [] has = absurd has
-has_more e x (y ∷ t) (inl is) = inl is
-has_more e x (y ∷ t) (inr has) = inr (has_more e x t has)
 
 pub has_last : {L : Type 0} (e : Entry L) (t : List (Entry L)) → Has e (t ++ e ∷ [])
 has_last e [] = inl refl
@@ -43,16 +38,28 @@ told_more P e None t is right = absurd (none_some t is)
 told_more P e (Some before) t is right = subst P (some_is (before ++ e ∷ []) t is) (right before refl)
 
 pub keeps_more : {L : Type 0} (d d' : DoorsTold L) (e : Entry L) → d'.told ≡ entries_with (Some e) d.told → KeepsTold d d'
-keeps_more d d' e told x had t is = told_more (λ t. Has x t) e d.told t (sym told ∙ is) (λ before was. has_more x e before (had before was))
+keeps_more d d' e told t is = told_more (λ t. Goes d.told t) e d.told t (sym told ∙ is) (λ before was. record { was = before; more = e ∷ []; had = was; is = refl })
 
 pub gains : {L : Type 0} (d d' : DoorsTold L) (e : Entry L) → d'.told ≡ entries_with (Some e) d.told → (t : List (Entry L)) → d'.told ≡ Some t → Has e t
 gains d d' e told t is = told_more (λ t. Has e t) e d.told t (sym told ∙ is) (λ before was. has_last e before)
 
 pub keeps_same : {L : Type 0} (d d' : DoorsTold L) → d'.told ≡ d.told → KeepsTold d d'
-keeps_same d d' told x had t is = had t (sym told ∙ is)
+keeps_same d d' told t is = record { was = t; more = []; had = sym told ∙ is; is = append-nil t }
 
 pub keeps_then : {L : Type 0} (a b c : DoorsTold L) → KeepsTold a b → KeepsTold b c → KeepsTold a c
-keeps_then a b c first second e had = second e (first e had)
+keeps_then a b c first second t is =
+    let late = second t is in
+    let early = first late.was late.had in
+    record { was = early.was; more = early.more ++ late.more; had = early.had; is = sym (append_assoc early.was early.more late.more) ∙ ap (λ l. l ++ late.more) early.is ∙ late.is }
+
+has_front : {L : Type 0} (e : Entry L) (t more : List (Entry L)) → Has e t → Has e (t ++ more)
+has_front e [] more has = absurd has
+has_front e (y ∷ t) more (inl is) = inl is
+has_front e (y ∷ t) more (inr has) = inr (has_front e t more has)
+
+-- what had an entry still has it
+pub keeps_has : {L : Type 0} (d d' : DoorsTold L) (e : Entry L) → KeepsTold d d' → ((t : List (Entry L)) → d.told ≡ Some t → Has e t) → (t : List (Entry L)) → d'.told ≡ Some t → Has e t
+keeps_has d d' e keeps had t is = let goes = keeps t is in subst (Has e) goes.is (has_front e goes.was goes.more (had goes.was goes.had))
 
 module _ {L : Type 0} (by : Setup → Side → EndsTold → RunTold L → Type 0) (setup : Setup) where
   pub each_more : (before es : List (Entry L)) (e : Entry L) → EachRight by setup before es → IsRight by setup (before ++ es) e → EachRight by setup before (es ++ e ∷ [])

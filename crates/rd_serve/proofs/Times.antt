@@ -1,9 +1,10 @@
 -- How often numbers stand in what is out, and in what is told.
-use Rattle.std.proofs.Common.{◌≡◌, ℕ, ◌+◌, ◌≤◌, ◌==◌, Bool, true, false, List, [], ◌∷◌, ◌++◌, length, inl, inr, refl, sym, ap, ◌∙◌, subst, arith, if◌then◌else◌}
+use Rattle.std.proofs.Common.{◌≡◌, ℕ, ◌+◌, ◌≤◌, ◌==◌, Bool, true, false, List, [], ◌∷◌, ◌++◌, length, inl, inr, refl, sym, ap, ◌∙◌, subst, arith, length-append, if◌then◌else◌}
 use Rattle.rd_base.specs.declared.values.Side.{Side}
 use Rattle.rd_runner.specs.Runs.{Setup}
 use Rattle.rd_doors.specs.Visits.{EndsTold, RunTold, Entry, Gave, GaveOperator, CameBack, TurnedAway, CameFromOperator, without, out_from, out_of, Holds}
 use Rattle.rd_serve.specs.Serving.{EachRight, one_if, times_given, times_ended}
+use Rattle.rd_serve.specs.Notes.{visits, turned, runs}
 use Rattle.rd_serve.specs.Sessions.{times}
 use Rattle.rd_serve.proofs.Telling.{out_from_more}
 
@@ -74,3 +75,25 @@ module _ {L : Type 0} (by : Setup → Side → EndsTold → RunTold L → Type 0
       let all = counted n [] t [] refl each in
       let no : times n (out_of t) ≡ 0 = ap (times n) none in
       omega arith
+
+  -- what was given has come back, was turned away or is out
+  accounted : (before es : List (Entry L)) (out : List ℕ) → out ≡ out_of before → EachRight by setup before es
+      → length out + visits es ≡ length (runs es) + turned es + length (out_from out es)
+  accounted before [] out same each = omega arith
+  accounted before (Gave side ends ∷ es) out same each =
+      let more = accounted (before ++ Gave side ends ∷ []) es (out ++ ends.number ∷ []) (ap (λ o. o ++ ends.number ∷ []) same ∙ sym (out_from_more [] before (Gave side ends))) each.1 in
+      let one = length-append out (ends.number ∷ []) in
+      omega arith
+  accounted before (GaveOperator source sink ∷ es) out same each = accounted (before ++ GaveOperator source sink ∷ []) es out (same ∙ sym (out_from_more [] before (GaveOperator source sink))) each.1
+  accounted before (CameBack run ∷ es) out same each =
+      let more = accounted (before ++ CameBack run ∷ []) es (without run.number out) (ap (without run.number) same ∙ sym (out_from_more [] before (CameBack run))) each.1 in
+      let one = length_without run.number out (subst (Holds run.number) (sym same) each.0.0) in
+      omega arith
+  accounted before (TurnedAway ends ∷ es) out same each =
+      let more = accounted (before ++ TurnedAway ends ∷ []) es (without ends.number out) (ap (without ends.number) same ∙ sym (out_from_more [] before (TurnedAway ends))) each.1 in
+      let one = length_without ends.number out (subst (Holds ends.number) (sym same) each.0.0) in
+      omega arith
+  accounted before (CameFromOperator source sink end ∷ es) out same each = accounted (before ++ CameFromOperator source sink end ∷ []) es out (same ∙ sym (out_from_more [] before (CameFromOperator source sink end))) each.1
+
+  pub all_accounted : (t : List (Entry L)) → EachRight by setup [] t → visits t ≡ length (runs t) + turned t + length (out_of t)
+  all_accounted t each = let all = accounted [] t [] refl each in omega arith

@@ -1,6 +1,7 @@
 // The serving loop: sessions side by side, over any doors and any runner.
 #![tactic(auto)]
 
+mod joining;
 mod server;
 mod session;
 

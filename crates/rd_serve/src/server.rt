@@ -1,5 +1,5 @@
-ghost use Rattle.std.specs.Prelude.{◌≡◌, ℕ, ◌+◌, ◌<◌, ◌≤◌, [], List, Some, None, true, false, is_some, length, IfOk, IfSome, OnOk, vec_len, vec_capacity};
-ghost use Rattle.rd_doors.specs.Visits.{Entry, Gave, CameBack, AreFresh, Holds, without, entries_with, ends_told, run_told};
+ghost use Rattle.std.specs.Prelude.{◌≡◌, ℕ, ◌+◌, ◌<◌, ◌≤◌, [], List, Some, None, true, false, is_some, length, IfOk, IfSome, OnOk, Err, vec_len, vec_capacity};
+ghost use Rattle.rd_doors.specs.Visits.{Entry, Gave, CameBack, TurnedAway, AreFresh, Holds, without, entries_with, ends_told, run_told};
 ghost use Rattle.rd_runner.specs.Runs.{Ran};
 ghost use Rattle.rd_runner.specs.Counts.{RoseBy};
 ghost use Rattle.rd_run_session.specs.CameTo.{CameTo};
@@ -7,11 +7,29 @@ ghost use Rattle.rd_run_session.specs.declared.left.SessionLeft.{SessionLeft};
 ghost use Rattle.rd_serve.specs.Serving.{Tells, IsServed, Has, times_given, times_ended};
 ghost use Rattle.rd_serve.specs.Counting.{CountedBy, EachRun, IsWithin, times_stopped, times_unstarted};
 ghost use Rattle.rd_serve.specs.Sessions.{AreOut, Keeps, KeepsTold, HasRoom};
+ghost use Rattle.rd_serve.specs.Notes.{HasIds};
+ghost use Rattle.rd_serve.specs.Noting.{IsKeepable, AreLive, NotesRun, NotesServe, NotesVisit};
+ghost use Rattle.rd_serve.specs.Operators.{Answered, Answering, NotesAndAnswers};
+ghost use Rattle.rd_base.specs.Clocks.{Ticks};
+ghost use Rattle.rd_base.specs.Outside.{Rose};
+ghost use Rattle.rd_desk.specs.Desk.{Start, IsAt};
+ghost use Rattle.rd_desk.specs.Noted.{Adds, note_left, without_id};
+ghost use Rattle.rd_desk.specs.Notes.{dialect_number};
+ghost use Rattle.rd_operator.specs.Replies.{StaysKept};
+ghost use Rattle.rd_run_session.specs.Dialects.{dialect_on};
+ghost use Rattle.rd_run_session.specs.Left.{summary_of};
 
-use crate::session::{Served, Session, begin};
-use rd_base::{Clock, NoMemory, OperatorEnd, Side, Sink, Source, Stopper};
+use crate::joining::{give_back, hand_back, join_all, join_ended, note_run};
+use crate::session::{SESSIONS, Session, begin};
+use rd_base::{Clock, NoMemory, Side, Sink, Source, Stopper};
+use rd_desk::{Begun, Desk, begin_session, dialect_number, end_session};
 use rd_doors::{Doors, Ends, Visit};
-use rd_run_session::{SessionLeft, SessionRunner, another_runner, run_visit, take_in_runner};
+use rd_keeper::{KeepFail, Keeper};
+use rd_lent_book::LentBook;
+use rd_operator::operator_once;
+use rd_run_session::{
+    SessionLeft, SessionRunner, another_runner, dialect_of, run_visit, take_in_runner,
+};
 use rd_runner::Ended;
 use rd_start::Spawner;
 use std::alloc::Global;
@@ -20,236 +38,18 @@ use std::sync::atomic::{AtomicBool, Ordering};
 use std::sync::{Arc, Wait};
 use std::thread::Threads;
 
-/// How many sessions run at once.
-const SESSIONS: usize = 32;
-
-/// Gives the run of a visit that is out back to the doors.
-fn hand_back<
-    P: Spawner + Send + 'static,
-    C: Clock + Send + 'static,
-    T: Stopper + Send + 'static,
-    R: Wait + Threads + Copy + Send + Sync + 'static,
-    E: Doors<SessionLeft<R>>,
->(
-    doors: &mut E,
-    first: &Snapshot<SessionRunner<P, C, T, R>>,
-    side: Side,
-    ends: Snapshot<Ends<E::Give, E::Take>>,
-    number: u64,
-    ended: Ended<E::Give, E::Take, SessionLeft<R>>,
-)
-    requires tells { Tells (CameTo E.Give) first.now.value.setup (E.tells doors.old) }
-    requires number { ends.value.number ≡ number }
-    requires out { Holds number (E.tells doors.old).out }
-    requires fresh { AreFresh first.now.value.setup.limits.copies
-        (ends_told E.Give.tells E.Take.tells ends.value) }
-    requires given { (told : List (Entry (SessionLeft R))) → (E.tells doors.old).told ≡ Some told
-        → Has (Gave side (ends_told E.Give.tells E.Take.tells ends.value)) told }
-    requires ran { Ran (CameTo E.Give) first.now.value.setup side
-        (ends_told E.Give.tells E.Take.tells ends.value)
-        (run_told E.Give.tells E.Take.tells ends.value.number ended.run ended.sinks.items) }
-    ensures tells { Tells (CameTo E.Give) first.now.value.setup (E.tells doors.new) }
-    ensures out { (E.tells doors.new).out ≡ without number (E.tells doors.old).out }
-    ensures told { (E.tells doors.new).told ≡ entries_with
-        (Some (CameBack (run_told E.Give.tells E.Take.tells number ended.run ended.sinks.items)))
-        (E.tells doors.old).told }
-    ensures keeps { KeepsTold (E.tells doors.old) (E.tells doors.new) }
-    ensures over { (E.tells doors.new).is_over ≡ (E.tells doors.old).is_over }
-{
-    let _ = first;
-    let _ = side;
-    let _ = ends;
-    doors.give_back(number, ended.run, ended.sinks);
-}
-
-/// Takes in who ran a session, and gives its run back to the doors.
-fn give_back<
-    P: Spawner + Send + 'static,
-    C: Clock + Send + 'static,
-    T: Stopper + Send + 'static,
-    R: Wait + Threads + Copy + Send + Sync + 'static,
-    E: Doors<SessionLeft<R>>,
->(
-    doors: &mut E,
-    runner: &mut SessionRunner<P, C, T, R>,
-    first: &Snapshot<SessionRunner<P, C, T, R>>,
-    side: Side,
-    ends: Snapshot<Ends<E::Give, E::Take>>,
-    number: u64,
-    served: Served<E::Give, E::Take, P, C, T, R>,
-)
-    requires tells { Tells (CameTo E.Give) first.now.value.setup (E.tells doors.old) }
-    requires counts { CountedBy first.now.value
-        runner.old (E.tells doors.old) }
-    requires number { ends.value.number ≡ number }
-    requires out { Holds number (E.tells doors.old).out }
-    requires fresh { AreFresh first.now.value.setup.limits.copies
-        (ends_told E.Give.tells E.Take.tells ends.value) }
-    requires given { (told : List (Entry (SessionLeft R))) → (E.tells doors.old).told ≡ Some told
-        → Has (Gave side (ends_told E.Give.tells E.Take.tells ends.value)) told }
-    requires kept { Keeps E.Give.tells E.Take.tells
-        first.now.value.setup side ends.value served }
-    ensures tells { Tells (CameTo E.Give) first.now.value.setup (E.tells doors.new) }
-    ensures counts { CountedBy first.now.value
-        runner.new (E.tells doors.new) }
-    ensures out { (E.tells doors.new).out ≡ without number (E.tells doors.old).out }
-    ensures keeps { KeepsTold (E.tells doors.old) (E.tells doors.new) }
-    ensures over { (E.tells doors.new).is_over ≡ (E.tells doors.old).is_over }
-{
-    let Served {
-        ended,
-        runner: theirs,
-    } = served;
-    take_in_runner(runner, theirs);
-    hand_back(doors, first, side, ends, number, ended);
-}
-
-/// Joins the session at this place, and gives its run back.
-fn join_at<
-    P: Spawner + Send + 'static,
-    C: Clock + Send + 'static,
-    T: Stopper + Send + 'static,
-    R: Wait + Threads + Copy + Send + Sync + 'static,
-    E: Doors<SessionLeft<R>>,
->(
-    rt: R,
-    doors: &mut E,
-    runner: &mut SessionRunner<P, C, T, R>,
-    first: &Snapshot<SessionRunner<P, C, T, R>>,
-    waiting: Option<u64>,
-    sessions: &mut Vec<Session<E::Give, E::Take, P, C, T, R>>,
-    flags: &mut Vec<Arc<AtomicBool, Global>>,
-    place: usize,
-)
-    requires tells { Tells (CameTo E.Give) first.now.value.setup (E.tells doors.old) }
-    requires counts { CountedBy first.now.value
-        runner.old (E.tells doors.old) }
-    requires out { AreOut E.Give.tells E.Take.tells first.now.value.setup
-        (E.tells doors.old) waiting sessions.old.items }
-    requires place { place < length sessions.old.items }
-    requires room { HasRoom sessions.old flags.old }
-    ensures tells { Tells (CameTo E.Give) first.now.value.setup (E.tells doors.new) }
-    ensures counts { CountedBy first.now.value
-        runner.new (E.tells doors.new) }
-    ensures out { AreOut E.Give.tells E.Take.tells first.now.value.setup
-        (E.tells doors.new) waiting sessions.new.items }
-    ensures keeps { KeepsTold (E.tells doors.old) (E.tells doors.new) }
-    ensures over { (E.tells doors.new).is_over ≡ (E.tells doors.old).is_over }
-    ensures room { HasRoom sessions.new flags.new }
-    ensures less { vec_len sessions.new + 1 ≡ vec_len sessions.old }
-{
-    let _ = waiting;
-    let Session {
-        number,
-        side,
-        ends,
-        handle,
-        flag,
-    } = sessions.remove(place);
-    let served = handle.join(&rt);
-    flag.store(false, Ordering::SeqCst);
-    flags.push_reserved(flag);
-    give_back(doors, runner, first, side, ends, number, served);
-}
-
-/// The place of a session whose flag is set.
-fn ended_place<
-    S: Source + Send + 'static,
-    K: Sink,
-    P: Spawner + Send + 'static,
-    C: Clock + Send + 'static,
-    T: Stopper + Send + 'static,
-    R: Wait + Threads + Copy + Send + Sync + 'static,
->(sessions: &[Session<S, K, P, C, T, R>]) -> Option<usize>
-    ensures { IfSome result (λ place. place < length sessions.now) }
-{
-    sessions
-        .iter()
-        .position(|session| session.flag.load(Ordering::SeqCst))
-}
-
-/// Joins the sessions that have ended, and gives their runs back.
-fn join_ended<
-    P: Spawner + Send + 'static,
-    C: Clock + Send + 'static,
-    T: Stopper + Send + 'static,
-    R: Wait + Threads + Copy + Send + Sync + 'static,
-    E: Doors<SessionLeft<R>>,
->(
-    rt: R,
-    doors: &mut E,
-    runner: &mut SessionRunner<P, C, T, R>,
-    first: &Snapshot<SessionRunner<P, C, T, R>>,
-    waiting: Option<u64>,
-    sessions: &mut Vec<Session<E::Give, E::Take, P, C, T, R>>,
-    flags: &mut Vec<Arc<AtomicBool, Global>>,
-)
-    requires tells { Tells (CameTo E.Give) first.now.value.setup (E.tells doors.old) }
-    requires counts { CountedBy first.now.value
-        runner.old (E.tells doors.old) }
-    requires out { AreOut E.Give.tells E.Take.tells first.now.value.setup
-        (E.tells doors.old) waiting sessions.old.items }
-    requires room { HasRoom sessions.old flags.old }
-    ensures tells { Tells (CameTo E.Give) first.now.value.setup (E.tells doors.new) }
-    ensures counts { CountedBy first.now.value
-        runner.new (E.tells doors.new) }
-    ensures out { AreOut E.Give.tells E.Take.tells first.now.value.setup
-        (E.tells doors.new) waiting sessions.new.items }
-    ensures keeps { KeepsTold (E.tells doors.old) (E.tells doors.new) }
-    ensures over { (E.tells doors.new).is_over ≡ (E.tells doors.old).is_over }
-    ensures room { HasRoom sessions.new flags.new }
-{
-    for _count in 0..SESSIONS {
-        let Some(place) = ended_place(sessions.as_slice()) else {
-            return;
-        };
-        join_at(rt, doors, runner, first, waiting, sessions, flags, place);
-    }
-}
-
-/// Waits for each session, and gives its run back.
-fn join_all<
-    P: Spawner + Send + 'static,
-    C: Clock + Send + 'static,
-    T: Stopper + Send + 'static,
-    R: Wait + Threads + Copy + Send + Sync + 'static,
-    E: Doors<SessionLeft<R>>,
->(
-    rt: R,
-    doors: &mut E,
-    runner: &mut SessionRunner<P, C, T, R>,
-    first: &Snapshot<SessionRunner<P, C, T, R>>,
-    sessions: &mut Vec<Session<E::Give, E::Take, P, C, T, R>>,
-    flags: &mut Vec<Arc<AtomicBool, Global>>,
-)
-    requires tells { Tells (CameTo E.Give) first.now.value.setup (E.tells doors.old) }
-    requires counts { CountedBy first.now.value
-        runner.old (E.tells doors.old) }
-    requires out { AreOut E.Give.tells E.Take.tells first.now.value.setup
-        (E.tells doors.old) None sessions.old.items }
-    requires room { HasRoom sessions.old flags.old }
-    ensures tells { Tells (CameTo E.Give) first.now.value.setup (E.tells doors.new) }
-    ensures counts { CountedBy first.now.value
-        runner.new (E.tells doors.new) }
-    ensures out { (E.tells doors.new).out ≡ [] }
-    ensures over { (E.tells doors.new).is_over ≡ (E.tells doors.old).is_over }
-{
-    while !sessions.is_empty() {
-        join_at(rt, doors, runner, first, None, sessions, flags, 0);
-    }
-}
-
 /// Turns a visit away, where 32 others are out.
 fn turn_away<
     P: Spawner + Send + 'static,
     C: Clock + Send + 'static,
     T: Stopper + Send + 'static,
+    B: LentBook + Send + 'static,
     R: Wait + Threads + Copy + Send + Sync + 'static,
     E: Doors<SessionLeft<R>>,
 >(
     doors: &mut E,
-    runner: &SessionRunner<P, C, T, R>,
-    first: &Snapshot<SessionRunner<P, C, T, R>>,
+    runner: &SessionRunner<P, C, T, B, R>,
+    first: &Snapshot<SessionRunner<P, C, T, B, R>>,
     ends: Ends<E::Give, E::Take>,
 )
     requires tells { Tells (CameTo E.Give) first.now.value.setup (E.tells doors.old) }
@@ -263,6 +63,8 @@ fn turn_away<
     ensures counts { CountedBy first.now.value
         runner.now (E.tells doors.new) }
     ensures out { (E.tells doors.new).out ≡ without ends.number (E.tells doors.old).out }
+    ensures told { (E.tells doors.new).told ≡ entries_with
+        (Some (TurnedAway (ends_told E.Give.tells E.Take.tells ends))) (E.tells doors.old).told }
     ensures keeps { KeepsTold (E.tells doors.old) (E.tells doors.new) }
     ensures over { (E.tells doors.new).is_over ≡ (E.tells doors.old).is_over }
 {
@@ -276,15 +78,19 @@ fn serve_here<
     P: Spawner + Send + 'static,
     C: Clock + Send + 'static,
     T: Stopper + Send + 'static,
+    B: LentBook + Send + 'static,
     R: Wait + Threads + Copy + Send + Sync + 'static,
     E: Doors<SessionLeft<R>>,
 >(
     alloc: Global,
     doors: &mut E,
-    runner: &mut SessionRunner<P, C, T, R>,
-    first: &Snapshot<SessionRunner<P, C, T, R>>,
+    runner: &mut SessionRunner<P, C, T, B, R>,
+    first: &Snapshot<SessionRunner<P, C, T, B, R>>,
     side: Side,
     ends: Ends<E::Give, E::Take>,
+    begun: Begun,
+    desk: &mut Desk,
+    clock: &mut C,
 )
     requires tells { Tells (CameTo E.Give) first.now.value.setup (E.tells doors.old) }
     requires counts { CountedBy first.now.value
@@ -294,36 +100,48 @@ fn serve_here<
         (ends_told E.Give.tells E.Take.tells ends) }
     requires given { (told : List (Entry (SessionLeft R))) → (E.tells doors.old).told ≡ Some told
         → Has (Gave side (ends_told E.Give.tells E.Take.tells ends)) told }
+    requires live { IfSome begun.id (λ id. Holds id desk.old.ids) }
+    requires keepable { IsKeepable begun }
     ensures tells { Tells (CameTo E.Give) first.now.value.setup (E.tells doors.new) }
     ensures counts { CountedBy first.now.value
         runner.new (E.tells doors.new) }
     ensures out { (E.tells doors.new).out ≡ without ends.number (E.tells doors.old).out }
     ensures keeps { KeepsTold (E.tells doors.old) (E.tells doors.new) }
     ensures over { (E.tells doors.new).is_over ≡ (E.tells doors.old).is_over }
+    ensures ids { desk.new.ids ≡ without_id begun.id desk.old.ids }
+    ensures notes { Answering (NotesRun first.now.value.setup
+        (E.tells doors.old) (E.tells doors.new) begun side
+        (ends_told E.Give.tells E.Take.tells ends) desk.old desk.new)
+        (C.tells clock.old) (C.tells clock.new) }
 {
     let number = ends.number;
     let handed = Snapshot::of(&ends);
     let ended = run_visit(runner, alloc, side, ends);
+    let _ended_at = note_run(desk, clock, runner, begun, side, &ended);
     hand_back(doors, first, side, handed, number, ended);
 }
 
-/// Serves a visit that has come: a session of its own, or turned away where 32 others are out.
-fn take_in<
+/// Begins the session of a visit, on a thread of its own where one can be had.
+fn admit<
     P: Spawner + Send + 'static,
     C: Clock + Send + 'static,
     T: Stopper + Send + 'static,
+    B: LentBook + Send + 'static,
     R: Wait + Threads + Copy + Send + Sync + 'static,
     E: Doors<SessionLeft<R>>,
 >(
     rt: R,
     alloc: Global,
     doors: &mut E,
-    runner: &mut SessionRunner<P, C, T, R>,
-    first: &Snapshot<SessionRunner<P, C, T, R>>,
+    runner: &mut SessionRunner<P, C, T, B, R>,
+    first: &Snapshot<SessionRunner<P, C, T, B, R>>,
     side: Side,
     ends: Ends<E::Give, E::Take>,
-    sessions: &mut Vec<Session<E::Give, E::Take, P, C, T, R>>,
+    sessions: &mut Vec<Session<E::Give, E::Take, P, C, T, B, R>>,
     flags: &mut Vec<Arc<AtomicBool, Global>>,
+    flag: Arc<AtomicBool, Global>,
+    desk: &mut Desk,
+    clock: &mut C,
 )
     requires tells { Tells (CameTo E.Give) first.now.value.setup (E.tells doors.old) }
     requires counts { CountedBy first.now.value
@@ -334,7 +152,10 @@ fn take_in<
         (ends_told E.Give.tells E.Take.tells ends) }
     requires given { (told : List (Entry (SessionLeft R))) → (E.tells doors.old).told ≡ Some told
         → Has (Gave side (ends_told E.Give.tells E.Take.tells ends)) told }
-    requires room { HasRoom sessions.old flags.old }
+    requires count { vec_len sessions.old + vec_len flags.old ≡ 31 }
+    requires sessions_room { 32 ≤ vec_capacity sessions.old }
+    requires flags_room { 32 ≤ vec_capacity flags.old }
+    requires live { AreLive desk.old.ids sessions.old.items }
     ensures tells { Tells (CameTo E.Give) first.now.value.setup (E.tells doors.new) }
     ensures counts { CountedBy first.now.value
         runner.new (E.tells doors.new) }
@@ -342,14 +163,17 @@ fn take_in<
         (E.tells doors.new) None sessions.new.items }
     ensures over { (E.tells doors.new).is_over ≡ (E.tells doors.old).is_over }
     ensures room { HasRoom sessions.new flags.new }
+    ensures live { AreLive desk.new.ids sessions.new.items }
+    ensures notes { Answering (NotesVisit first.now.value.setup
+        (E.tells doors.old) (E.tells doors.new) E.Give.tells E.Take.tells
+        desk.old desk.new sessions.old.items sessions.new.items
+        side (ends_told E.Give.tells E.Take.tells ends))
+        (C.tells clock.old) (C.tells clock.new) }
 {
-    let Some(flag) = flags.pop() else {
-        turn_away(doors, runner, first, ends);
-        return;
-    };
+    let begun = begin_session(desk, clock);
     let (Some(theirs), Ok(shared)) = (another_runner(runner), Arc::try_clone(&flag)) else {
         flags.push_reserved(flag);
-        serve_here(alloc, doors, runner, first, side, ends);
+        serve_here(alloc, doors, runner, first, side, ends, begun, desk, clock);
         return;
     };
     let number = ends.number;
@@ -359,34 +183,40 @@ fn take_in<
             number,
             side,
             ends: handed,
+            begun,
             handle,
             flag,
         }),
         Err(served) => {
             flag.store(false, Ordering::SeqCst);
             flags.push_reserved(flag);
-            give_back(doors, runner, first, side, handed, number, served);
+            give_back(
+                doors, runner, first, side, handed, number, served, begun, desk, clock,
+            );
         }
     }
 }
 
-/// Joins the sessions that have ended, and then serves a visit that has come.
-fn receive<
+/// Serves a visit that has come: a session of its own, or turned away where 32 others are out.
+fn take_in<
     P: Spawner + Send + 'static,
     C: Clock + Send + 'static,
     T: Stopper + Send + 'static,
+    B: LentBook + Send + 'static,
     R: Wait + Threads + Copy + Send + Sync + 'static,
     E: Doors<SessionLeft<R>>,
 >(
     rt: R,
     alloc: Global,
     doors: &mut E,
-    runner: &mut SessionRunner<P, C, T, R>,
-    first: &Snapshot<SessionRunner<P, C, T, R>>,
+    runner: &mut SessionRunner<P, C, T, B, R>,
+    first: &Snapshot<SessionRunner<P, C, T, B, R>>,
     side: Side,
     ends: Ends<E::Give, E::Take>,
-    sessions: &mut Vec<Session<E::Give, E::Take, P, C, T, R>>,
+    sessions: &mut Vec<Session<E::Give, E::Take, P, C, T, B, R>>,
     flags: &mut Vec<Arc<AtomicBool, Global>>,
+    desk: &mut Desk,
+    clock: &mut C,
 )
     requires tells { Tells (CameTo E.Give) first.now.value.setup (E.tells doors.old) }
     requires counts { CountedBy first.now.value
@@ -398,6 +228,7 @@ fn receive<
     requires given { (told : List (Entry (SessionLeft R))) → (E.tells doors.old).told ≡ Some told
         → Has (Gave side (ends_told E.Give.tells E.Take.tells ends)) told }
     requires room { HasRoom sessions.old flags.old }
+    requires live { AreLive desk.old.ids sessions.old.items }
     ensures tells { Tells (CameTo E.Give) first.now.value.setup (E.tells doors.new) }
     ensures counts { CountedBy first.now.value
         runner.new (E.tells doors.new) }
@@ -405,10 +236,96 @@ fn receive<
         (E.tells doors.new) None sessions.new.items }
     ensures over { (E.tells doors.new).is_over ≡ (E.tells doors.old).is_over }
     ensures room { HasRoom sessions.new flags.new }
+    ensures live { AreLive desk.new.ids sessions.new.items }
+    ensures notes { Answering (NotesVisit first.now.value.setup
+        (E.tells doors.old) (E.tells doors.new) E.Give.tells E.Take.tells
+        desk.old desk.new sessions.old.items sessions.new.items
+        side (ends_told E.Give.tells E.Take.tells ends))
+        (C.tells clock.old) (C.tells clock.new) }
+{
+    let Some(flag) = flags.pop() else {
+        turn_away(doors, runner, first, ends);
+        return;
+    };
+    admit(
+        rt, alloc, doors, runner, first, side, ends, sessions, flags, flag, desk, clock,
+    );
+}
+
+/// Joins the sessions that have ended, and then serves a visit that has come.
+fn receive<
+    P: Spawner + Send + 'static,
+    C: Clock + Send + 'static,
+    T: Stopper + Send + 'static,
+    B: LentBook + Send + 'static,
+    R: Wait + Threads + Copy + Send + Sync + 'static,
+    E: Doors<SessionLeft<R>>,
+>(
+    rt: R,
+    alloc: Global,
+    doors: &mut E,
+    runner: &mut SessionRunner<P, C, T, B, R>,
+    first: &Snapshot<SessionRunner<P, C, T, B, R>>,
+    side: Side,
+    ends: Ends<E::Give, E::Take>,
+    sessions: &mut Vec<Session<E::Give, E::Take, P, C, T, B, R>>,
+    flags: &mut Vec<Arc<AtomicBool, Global>>,
+    desk: &mut Desk,
+    clock: &mut C,
+)
+    requires tells { Tells (CameTo E.Give) first.now.value.setup (E.tells doors.old) }
+    requires counts { CountedBy first.now.value
+        runner.old (E.tells doors.old) }
+    requires out { AreOut E.Give.tells E.Take.tells first.now.value.setup
+        (E.tells doors.old) (Some ends.number) sessions.old.items }
+    requires fresh { AreFresh first.now.value.setup.limits.copies
+        (ends_told E.Give.tells E.Take.tells ends) }
+    requires given { (told : List (Entry (SessionLeft R))) → (E.tells doors.old).told ≡ Some told
+        → Has (Gave side (ends_told E.Give.tells E.Take.tells ends)) told }
+    requires room { HasRoom sessions.old flags.old }
+    requires live { AreLive desk.old.ids sessions.old.items }
+    ensures tells { Tells (CameTo E.Give) first.now.value.setup (E.tells doors.new) }
+    ensures counts { CountedBy first.now.value
+        runner.new (E.tells doors.new) }
+    ensures out { AreOut E.Give.tells E.Take.tells first.now.value.setup
+        (E.tells doors.new) None sessions.new.items }
+    ensures over { (E.tells doors.new).is_over ≡ (E.tells doors.old).is_over }
+    ensures room { HasRoom sessions.new flags.new }
+    ensures live { AreLive desk.new.ids sessions.new.items }
+    ensures notes { Answering (NotesVisit first.now.value.setup
+        (E.tells doors.old) (E.tells doors.new) E.Give.tells E.Take.tells
+        desk.old desk.new sessions.old.items sessions.new.items
+        side (ends_told E.Give.tells E.Take.tells ends))
+        (C.tells clock.old) (C.tells clock.new) }
 {
     let waiting = Some(ends.number);
-    join_ended(rt, doors, runner, first, waiting, sessions, flags);
-    take_in(rt, alloc, doors, runner, first, side, ends, sessions, flags);
+    join_ended(
+        rt, doors, runner, first, waiting, sessions, flags, desk, clock,
+    );
+    take_in(
+        rt, alloc, doors, runner, first, side, ends, sessions, flags, desk, clock,
+    );
+}
+
+/// Answers an operator by the board and the keeper's notes.
+fn answer<R: Wait + Threads + Copy + Send + Sync + 'static, E: Doors<SessionLeft<R>>, Y: Keeper>(
+    alloc: Global,
+    doors: &mut E,
+    source: E::Give,
+    sink: E::Take,
+    desk: &Desk,
+    keeper: &mut Y,
+)
+    requires open_sink { (E.Take.tells sink).is_closed ≡ false }
+    requires mark { (E.Take.tells sink).mark ≡ (E.Give.tells source).mark }
+    requires out { 1 ≤ (E.tells doors.old).asking }
+    ensures answers { Answered desk.now.board (E.Give.tells source) (E.Take.tells sink)
+        (E.tells doors.old) (E.tells doors.new) (Y.tells keeper.old) (Y.tells keeper.new) }
+    ensures kept { StaysKept (Y.tells keeper.old) (Y.tells keeper.new) }
+{
+    let (mut source, mut sink) = (source, sink);
+    let end = operator_once(alloc, &mut source, &mut sink, desk.board(), keeper);
+    doors.operator_back(source, sink, end);
 }
 
 /// Takes what comes next, and says whether that was Over.
@@ -416,16 +333,21 @@ fn serve_visit<
     P: Spawner + Send + 'static,
     C: Clock + Send + 'static,
     T: Stopper + Send + 'static,
+    B: LentBook + Send + 'static,
     R: Wait + Threads + Copy + Send + Sync + 'static,
     E: Doors<SessionLeft<R>>,
+    Y: Keeper,
 >(
     rt: R,
     alloc: Global,
     doors: &mut E,
-    runner: &mut SessionRunner<P, C, T, R>,
-    first: &Snapshot<SessionRunner<P, C, T, R>>,
-    sessions: &mut Vec<Session<E::Give, E::Take, P, C, T, R>>,
+    runner: &mut SessionRunner<P, C, T, B, R>,
+    first: &Snapshot<SessionRunner<P, C, T, B, R>>,
+    sessions: &mut Vec<Session<E::Give, E::Take, P, C, T, B, R>>,
     flags: &mut Vec<Arc<AtomicBool, Global>>,
+    desk: &mut Desk,
+    clock: &mut C,
+    keeper: &mut Y,
 ) -> bool
     requires tells { Tells (CameTo E.Give) first.now.value.setup (E.tells doors.old) }
     requires counts { CountedBy first.now.value
@@ -433,6 +355,7 @@ fn serve_visit<
     requires out { AreOut E.Give.tells E.Take.tells first.now.value.setup
         (E.tells doors.old) None sessions.old.items }
     requires room { HasRoom sessions.old flags.old }
+    requires live { AreLive desk.old.ids sessions.old.items }
     ensures tells { Tells (CameTo E.Give) first.now.value.setup (E.tells doors.new) }
     ensures counts { CountedBy first.now.value
         runner.new (E.tells doors.new) }
@@ -440,6 +363,12 @@ fn serve_visit<
         (E.tells doors.new) None sessions.new.items }
     ensures over { result ≡ true → (E.tells doors.new).is_over ≡ true }
     ensures room { HasRoom sessions.new flags.new }
+    ensures live { AreLive desk.new.ids sessions.new.items }
+    ensures notes { Answering (NotesServe first.now.value.setup
+        (E.tells doors.old) (E.tells doors.new) E.Give.tells E.Take.tells
+        desk.old desk.new sessions.old.items sessions.new.items
+        (Y.tells keeper.old) (Y.tells keeper.new)) (C.tells clock.old) (C.tells clock.new) }
+    ensures faults { (Y.tells keeper.old).faults ≤ (Y.tells keeper.new).faults }
 {
     match doors.next_visit(alloc) {
         Visit::Client(ends) => {
@@ -453,6 +382,8 @@ fn serve_visit<
                 ends,
                 sessions,
                 flags,
+                desk,
+                clock,
             );
             false
         }
@@ -467,18 +398,73 @@ fn serve_visit<
                 ends,
                 sessions,
                 flags,
+                desk,
+                clock,
             );
             false
         }
-        Visit::Operator(source, mut sink) => {
-            sink.close();
-            doors.operator_back(source, sink, OperatorEnd::Nothing);
+        Visit::Operator(source, sink) => {
+            answer(alloc, doors, source, sink, desk, keeper);
             false
         }
         Visit::Quiet => false,
         Visit::Failed => false,
         Visit::NoMemory => false,
         Visit::Over => true,
+    }
+}
+
+/// Serves visits until the doors are over. Notes are put behind each turn.
+fn serve_visits<
+    P: Spawner + Send + 'static,
+    C: Clock + Send + 'static,
+    T: Stopper + Send + 'static,
+    B: LentBook + Send + 'static,
+    R: Wait + Threads + Copy + Send + Sync + 'static,
+    E: Doors<SessionLeft<R>>,
+    Y: Keeper,
+>(
+    rt: R,
+    alloc: Global,
+    doors: &mut E,
+    runner: &mut SessionRunner<P, C, T, B, R>,
+    first: &Snapshot<SessionRunner<P, C, T, B, R>>,
+    sessions: &mut Vec<Session<E::Give, E::Take, P, C, T, B, R>>,
+    flags: &mut Vec<Arc<AtomicBool, Global>>,
+    desk: &mut Desk,
+    clock: &mut C,
+    keeper: &mut Y,
+)
+    requires tells { Tells (CameTo E.Give) first.now.value.setup (E.tells doors.old) }
+    requires counts { CountedBy first.now.value
+        runner.old (E.tells doors.old) }
+    requires out { AreOut E.Give.tells E.Take.tells first.now.value.setup
+        (E.tells doors.old) None sessions.old.items }
+    requires room { HasRoom sessions.old flags.old }
+    requires live { AreLive desk.old.ids sessions.old.items }
+    ensures tells { Tells (CameTo E.Give) first.now.value.setup (E.tells doors.new) }
+    ensures counts { CountedBy first.now.value
+        runner.new (E.tells doors.new) }
+    ensures out { AreOut E.Give.tells E.Take.tells first.now.value.setup
+        (E.tells doors.new) None sessions.new.items }
+    ensures over { (E.tells doors.new).is_over ≡ true }
+    ensures room { HasRoom sessions.new flags.new }
+    ensures live { AreLive desk.new.ids sessions.new.items }
+    ensures notes { Answering (NotesServe first.now.value.setup
+        (E.tells doors.old) (E.tells doors.new) E.Give.tells E.Take.tells
+        desk.old desk.new sessions.old.items sessions.new.items
+        (Y.tells keeper.old) (Y.tells keeper.new)) (C.tells clock.old) (C.tells clock.new) }
+    ensures faults { (Y.tells keeper.old).faults ≤ (Y.tells keeper.new).faults }
+{
+    for _ in rt.forever() {
+        let over = serve_visit(
+            rt, alloc, doors, runner, first, sessions, flags, desk, clock, keeper,
+        );
+        if over {
+            return;
+        }
+        join_ended(rt, doors, runner, first, None, sessions, flags, desk, clock);
+        let _put = desk.keep_some(keeper);
     }
 }
 
@@ -504,18 +490,24 @@ pub fn serve<
     P: Spawner + Send + 'static,
     C: Clock + Send + 'static,
     T: Stopper + Send + 'static,
+    B: LentBook + Send + 'static,
     R: Wait + Threads + Copy + Send + Sync + 'static,
     E: Doors<SessionLeft<R>>,
+    Y: Keeper,
 >(
     rt: R,
     alloc: Global,
     doors: &mut E,
-    runner: &mut SessionRunner<P, C, T, R>,
-) -> Result<(), NoMemory>
+    runner: &mut SessionRunner<P, C, T, B, R>,
+    desk: Desk,
+    clock: &mut C,
+    keeper: &mut Y,
+) -> Result<(), KeepFail>
     requires copies { (E.tells doors.old).copies ≡ Some runner.old.setup.limits.copies }
     requires untold { (told : List (Entry (SessionLeft R)))
         → (E.tells doors.old).told ≡ Some told → told ≡ [] }
     requires none { (E.tells doors.old).out ≡ [] }
+    requires ids { desk.ids ≡ [] }
     ensures served { (told : List (Entry (SessionLeft R))) → (E.tells doors.new).told ≡ Some told
         → IsServed (CameTo E.Give) runner.old.setup told }
     ensures ended { OnOk result ((told : List (Entry (SessionLeft R)))
@@ -529,21 +521,42 @@ pub fn serve<
         runner.old.refusals runner.new.refusals }
     ensures late { (told : List (Entry (SessionLeft R))) → (E.tells doors.new).told ≡ Some told
         → EachRun (IsWithin runner.new.span) told }
+    ensures notes { OnOk result ((start : Start) (told : List (Entry (SessionLeft R)))
+        → IsAt start [] desk (Y.tells keeper.old) → (E.tells doors.new).told ≡ Some told
+        → Answering (λ asked. NotesAndAnswers runner.old.setup start asked told
+        (Y.tells keeper.new)) (C.tells clock.old) (C.tells clock.new)) }
+    ensures four { result ≡ Err KeepFail.Failed
+        → Rose (Y.tells keeper.old).faults (Y.tells keeper.new).faults }
     ensures over { OnOk result ((E.tells doors.new).is_over ≡ true) }
     ensures out { OnOk result ((E.tells doors.new).out ≡ []) }
 {
     let Ok(mut sessions) = Vec::with_capacity(alloc, SESSIONS) else {
-        return Err(NoMemory);
+        return Err(KeepFail::NoMemory);
     };
     let mut flags = make_flags(alloc)?;
+    let mut desk = desk;
     let first = Snapshot::of(runner);
-    for _ in rt.forever() {
-        let over = serve_visit(rt, alloc, doors, runner, &first, &mut sessions, &mut flags);
-        if over {
-            break;
-        }
-        join_ended(rt, doors, runner, &first, None, &mut sessions, &mut flags);
-    }
-    join_all(rt, doors, runner, &first, &mut sessions, &mut flags);
-    Ok(())
+    serve_visits(
+        rt,
+        alloc,
+        doors,
+        runner,
+        &first,
+        &mut sessions,
+        &mut flags,
+        &mut desk,
+        clock,
+        keeper,
+    );
+    join_all(
+        rt,
+        doors,
+        runner,
+        &first,
+        &mut sessions,
+        &mut flags,
+        &mut desk,
+        clock,
+    );
+    desk.keep_all(keeper)
 }

@@ -5,7 +5,9 @@ ghost use Rattle.rd_serve.specs.Crossing.{Crosses};
 ghost use Rattle.rd_serve.specs.Sessions.{Keeps};
 
 use rd_base::{Clock, Side, Sink, Source, Stopper};
+use rd_desk::Begun;
 use rd_doors::Ends;
+use rd_lent_book::LentBook;
 use rd_run_session::{SessionLeft, SessionRunner, run_visit};
 use rd_runner::Ended;
 use rd_start::Spawner;
@@ -16,17 +18,20 @@ use std::sync::{Arc, Wait};
 use std::thread;
 use std::thread::{Promise, PromisedHandle, Threads};
 
+/// How many sessions run at once.
+pub(crate) const SESSIONS: usize = 32;
+
 /// What a session's thread gives: what came of the session, and who ran it.
 #[derive(Drop)]
-pub struct Served<S, K, P: Spawner, C: Clock, T: Stopper, R: Wait + Threads + Copy> {
+pub struct Served<S, K, P: Spawner, C: Clock, T: Stopper, B: LentBook, R: Wait + Threads + Copy> {
     pub ended: Ended<S, K, SessionLeft<R>>,
-    pub runner: SessionRunner<P, C, T, R>,
+    pub runner: SessionRunner<P, C, T, B, R>,
 }
 
 /// What a session's thread was handed.
 #[derive(Drop)]
-pub struct Handed<S, K, P: Spawner, C: Clock, T: Stopper, R: Wait + Threads + Copy> {
-    pub runner: Snapshot<SessionRunner<P, C, T, R>>,
+pub struct Handed<S, K, P: Spawner, C: Clock, T: Stopper, B: LentBook, R: Wait + Threads + Copy> {
+    pub runner: Snapshot<SessionRunner<P, C, T, B, R>>,
     pub side: Side,
     pub ends: Snapshot<Ends<S, K>>,
 }
@@ -37,8 +42,9 @@ impl<
     P: Spawner + Send + 'static,
     C: Clock + Send + 'static,
     T: Stopper + Send + 'static,
+    B: LentBook + Send + 'static,
     R: Wait + Threads + Copy + Send + Sync + 'static,
-> Promise<Served<S, K, P, C, T, R>> for Handed<S, K, P, C, T, R> {
+> Promise<Served<S, K, P, C, T, B, R>> for Handed<S, K, P, C, T, B, R> {
     ghost kept_by = { λ p r. Keeps S.tells K.tells
         p.runner.value.setup p.side p.ends.value r };
 }
@@ -51,22 +57,32 @@ pub struct Session<
     P: Spawner + Send + 'static,
     C: Clock + Send + 'static,
     T: Stopper + Send + 'static,
+    B: LentBook + Send + 'static,
     R: Wait + Threads + Copy + Send + Sync + 'static,
 > {
     pub number: u64,
     pub side: Side,
     pub ends: Snapshot<Ends<S, K>>,
-    pub handle: PromisedHandle<Served<S, K, P, C, T, R>, Handed<S, K, P, C, T, R>>,
+    pub begun: Begun,
+    pub handle: PromisedHandle<Served<S, K, P, C, T, B, R>, Handed<S, K, P, C, T, B, R>>,
     pub flag: Arc<AtomicBool, Global>,
 }
 
 /// What a session's thread runs: the session of a visit, by who counts from 0, and the flag that it sets.
 #[derive(Drop)]
-struct Job<S: Source, K: Sink, P: Spawner, C: Clock, T: Stopper, R: Wait + Threads + Copy> {
+struct Job<
+    S: Source,
+    K: Sink,
+    P: Spawner,
+    C: Clock,
+    T: Stopper,
+    B: LentBook,
+    R: Wait + Threads + Copy,
+> {
     alloc: Global,
     side: Side,
     ends: Ends<S, K>,
-    runner: SessionRunner<P, C, T, R>,
+    runner: SessionRunner<P, C, T, B, R>,
     flag: Arc<AtomicBool, Global>,
 }
 
@@ -78,8 +94,9 @@ fn run_and_tell<
     P: Spawner,
     C: Clock,
     T: Stopper,
+    B: LentBook,
     R: Wait + Threads + Copy + Send + Sync + 'static,
->(job: Job<S, K, P, C, T, R>) -> Served<S, K, P, C, T, R>
+>(job: Job<S, K, P, C, T, B, R>) -> Served<S, K, P, C, T, B, R>
     requires sources { Crosses S.row }
     requires runtime { Crosses R.row }
     requires shared { IsSync R.row }
@@ -133,17 +150,18 @@ pub fn begin<
     P: Spawner + Send + 'static,
     C: Clock + Send + 'static,
     T: Stopper + Send + 'static,
+    B: LentBook + Send + 'static,
     R: Wait + Threads + Copy + Send + Sync + 'static,
 >(
     rt: R,
     alloc: Global,
     side: Side,
     ends: Ends<S, K>,
-    runner: SessionRunner<P, C, T, R>,
+    runner: SessionRunner<P, C, T, B, R>,
     flag: Arc<AtomicBool, Global>,
 ) -> Result<
-    PromisedHandle<Served<S, K, P, C, T, R>, Handed<S, K, P, C, T, R>>,
-    Served<S, K, P, C, T, R>,
+    PromisedHandle<Served<S, K, P, C, T, B, R>, Handed<S, K, P, C, T, B, R>>,
+    Served<S, K, P, C, T, B, R>,
 >
     requires yeses { runner.yeses ≡ 0 }
     requires refusals { runner.refusals ≡ 0 }

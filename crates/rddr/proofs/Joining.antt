@@ -1,14 +1,19 @@
 -- Counts of a serving that are taken in, and a serving that gave no visit.
 use Rattle.std.proofs.Common.{◌≡◌, ℕ, ◌+◌, ◌-◌, ◌^◌, ◌≤◌, ◌<◌, min, max, List, [], ◌⊎◌, inl, inr, refl, sym, ap, ◌∙◌, subst, arith}
 use Rattle.std.proofs.lemmas.Bool.{cases_lt}
+use Rattle.rd_base.specs.Clocks.{ClockTold}
 use Rattle.rd_base.specs.Counts.{sum_counted}
 use Rattle.rd_doors.specs.Visits.{Entry}
+use Rattle.rd_keeper.specs.Keeping.{KeeperTold}
+use Rattle.rd_desk.specs.Desk.{DeskView, Start, IsAt, Opens}
+use Rattle.rd_desk.specs.Noted.{start_over}
 use Rattle.rd_runner.specs.Counts.{RoseBy}
 use Rattle.rd_runner.specs.Runs.{Setup}
 use Rattle.rd_run_session.specs.CameTo.{CameTo}
 use Rattle.rd_run_session.specs.Counted.{capped}
 use Rattle.rd_run_session.specs.declared.left.SessionLeft.{SessionLeft}
 use Rattle.rd_serve.specs.Counting.{EachRun, IsWithin, times_stopped, times_unstarted}
+use Rattle.rd_serve.specs.Operators.{Answering, NotesAndAnswers, AllNoted}
 use Rattle.rd_serve.specs.Serving.{IsServed, times_given, times_ended}
 use Rattle.rd_serve.proofs.Counted.{each_run_kept}
 
@@ -53,3 +58,13 @@ module _ {R : Type 0} where
 
   pub none_late : (span : ℕ) (told : List (Entry (SessionLeft R))) → told ≡ [] → EachRun (IsWithin span) told
   none_late span told is = subst (λ t. EachRun (IsWithin span) t) (sym is) tt
+
+  -- ---- notes over a keeper that tells its notes
+
+  pub all_noted : (setup : Setup) (told : List (Entry (SessionLeft R))) (desk : DeskView) (clock served_by joined : ClockTold) (keeper opened ended : KeeperTold)
+      → Opens desk keeper → IsAt (record { keeper = keeper; greatest = desk.board.drawn }) [] desk opened → joined.answers ≡ served_by.answers
+      → ((start : Start) → IsAt start [] desk opened → Answering (λ asked. NotesAndAnswers setup start asked told ended) clock served_by)
+      → AllNoted setup told clock joined keeper ended
+  all_noted setup told desk clock served_by joined keeper opened ended opens at same serves notes has =
+      let noted = serves (start_over keeper notes) (subst (λ n. IsAt (record { keeper = keeper; greatest = n }) [] desk opened) (opens.greatest notes has) at) in
+      record { more = noted.more; are = same ∙ noted.are; holds = noted.holds }

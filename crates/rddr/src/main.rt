@@ -22,8 +22,10 @@ mod work;
 
 use disk_files::DiskFiles;
 use rd_base::NoMemory;
+use rd_keeper::{MemKeeper, SqlKeeper};
 use replay::replay_main;
 use service::{Commands, read_lines, serve_over_tcp};
+use serving::records_of;
 use std::alloc::{AllocError, Global};
 use std::io::ErrorKind;
 use std::process::ExitCode;
@@ -39,14 +41,30 @@ fn main(rt: HostRuntime) -> ExitCode {
                 // It isn't joined, since it may wait for one more line.
                 let theirs = commands.share();
                 match thread::spawn(&rt, move || read_lines(rt, theirs)) {
-                    Ok(_watching) => serve_over_tcp(
-                        rt,
-                        rt.alloc(),
-                        words.as_slice(),
-                        &mut files,
-                        &mut out,
-                        commands,
-                    ),
+                    Ok(_watching) => match records_of(rt.alloc(), words.as_slice(), &mut files) {
+                        Ok(Some(name)) => match open_records(&rt, rt.alloc(), name.as_slice()) {
+                            Ok(mut keeper) => serve_over_tcp(
+                                rt,
+                                rt.alloc(),
+                                words.as_slice(),
+                                &mut files,
+                                &mut out,
+                                commands,
+                                &mut keeper,
+                            ),
+                            Err(NoMemory) => 6,
+                        },
+                        Ok(None) => serve_over_tcp(
+                            rt,
+                            rt.alloc(),
+                            words.as_slice(),
+                            &mut files,
+                            &mut out,
+                            commands,
+                            &mut MemKeeper::new(rt.alloc(), Vec::new(rt.alloc())),
+                        ),
+                        Err(NoMemory) => 6,
+                    },
                     Err(_) => 6,
                 }
             }
@@ -56,6 +74,11 @@ fn main(rt: HostRuntime) -> ExitCode {
         Err(AllocError) => 6,
     };
     ExitCode::from(status)
+}
+
+/// Opens the file of this name. One whose name is no text is a file that can't be opened.
+fn open_records(rt: &HostRuntime, alloc: Global, name: &[u8]) -> Result<SqlKeeper, NoMemory> {
+    SqlKeeper::open(rt, alloc, std::str::from_utf8(name).unwrap_or(""))
 }
 
 fn is_run(words: &[String]) -> bool {

@@ -2,6 +2,7 @@ ghost use Rattle.std.specs.Prelude.{◌≡◌, false};
 
 use crate::serving::run_main;
 use rd_base::{Files, NoMemory, Sink};
+use rd_keeper::Keeper;
 use rd_net_edge::{Flag, RealClock, StopFlag, TcpDoors};
 use rd_start::ThreadSpawner;
 use std::alloc::Global;
@@ -53,6 +54,7 @@ impl Commands {
 pub fn serve_over_tcp<
     F: Files,
     K: Sink,
+    Y: Keeper,
     R: Wait
         + Threads
         + Clock
@@ -61,7 +63,15 @@ pub fn serve_over_tcp<
         + Send
         + Sync
         + 'static,
->(rt: R, alloc: Global, words: &[String], files: &mut F, out: &mut K, commands: Commands) -> u8
+>(
+    rt: R,
+    alloc: Global,
+    words: &[String],
+    files: &mut F,
+    out: &mut K,
+    commands: Commands,
+    keeper: &mut Y,
+) -> u8
     requires { (K.tells out.old).is_closed ≡ false }
 {
     let Ok(mut clock) = RealClock::new(rt) else {
@@ -81,6 +91,7 @@ pub fn serve_over_tcp<
         &mut spawner,
         &mut clock,
         &mut stopper,
+        keeper,
     )
 }
 

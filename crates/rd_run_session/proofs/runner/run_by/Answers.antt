@@ -38,8 +38,8 @@ pub returns-in-Incoming-clause-came : goal.returns-in-Incoming-clause-came
 returns-in-Incoming-clause-came g c =
     let r : Rules = rules_on side.Incoming (g.D.Dialect.grammar c.args.dialect) c.args.limits in
     let olds : List SinkTold = map g.K.Sink.tells c.args.ends.sinks.items in
-    let before : View → Outside = λ v. outside v (g.C.Clock.tells c.args.clock.now) (g.Q.Stopper.tells c.args.stop.now) None in
-    let after : View → Outside = λ v. outside v (g.C.Clock.tells c.run_in-run.new.clock) (g.Q.Stopper.tells c.run_in-run.new.stop) None in
+    let before : View → Outside = λ v. outside v (g.C.Clock.tells c.args.clock.now) (g.Q.Stopper.tells c.args.stop.now) (g.B.TokenBook.tells c.args.book.now) in
+    let after : View → Outside = λ v. outside v (g.C.Clock.tells c.run_in-run.new.clock) (g.Q.Stopper.tells c.run_in-run.new.stop) (g.B.TokenBook.tells c.run_in-run.new.book) in
     came_by (g.D.Dialect.grammar c.args.dialect) c.args.limits c.args.side side.Incoming c.in-Incoming.is
     (ends_told g.S.Source.tells g.K.Sink.tells c.args.ends)
     (run_told g.S.Source.tells g.K.Sink.tells c.args.ends.number c.ended.result.run c.ended.result.sinks.items)
@@ -64,7 +64,7 @@ pub returns-in-Incoming-clause-counted : goal.returns-in-Incoming-clause-counted
 returns-in-Incoming-clause-counted g c =
     subst (λ report. Counted (summary_of report) (g.C.Clock.tells c.args.clock.now) (g.C.Clock.tells c.run_in-run.new.clock) (g.Q.Stopper.tells c.args.stop.now) (g.Q.Stopper.tells c.run_in-run.new.stop)
     (g.P.Spawner.tells c.args.spawner.now).refusals (g.P.Spawner.tells c.run_in-run.new.spawner).refusals) (sym c.ended.ensures.report)
-    (runs_counted (rules_on side.Incoming (g.D.Dialect.grammar c.args.dialect) c.args.limits) _ _ _ _ None None _ _ c.run_in-run.result _ _ c.run_in-run.ensures.run c.requires.yeses)
+    (runs_counted (rules_on side.Incoming (g.D.Dialect.grammar c.args.dialect) c.args.limits) _ _ _ _ (g.B.TokenBook.tells c.args.book.now) (g.B.TokenBook.tells c.run_in-run.new.book) _ _ c.run_in-run.result _ _ c.run_in-run.ensures.run c.requires.yeses)
 
 pub returns-in-Outgoing-clause-came : goal.returns-in-Outgoing-clause-came
 returns-in-Outgoing-clause-came g c =

@@ -1,7 +1,14 @@
-use Rattle.std.proofs.Common.{subst, sym}
+use Rattle.std.proofs.Common.{refl, subst, sym, ◌∙◌}
 use Rattle.rd_doors.specs.Visits.{Gave, ends_told}
+use Rattle.rd_desk.specs.Noted.{Adds, note_left}
+use Rattle.rd_desk.specs.Notes.{dialect_number}
+use Rattle.rd_run_session.specs.Dialects.{dialect_on}
+use Rattle.rd_run_session.specs.Left.{summary_of}
+use Rattle.rd_runner.specs.Runs.{Setup}
 use Rattle.rd_serve.specs.Serving.{Has}
 use Rattle.rd_serve.proofs.Counted.{counted_run}
+use Rattle.rd_serve.proofs.Answering.{ticked}
+use Rattle.rd_serve.proofs.Noting.{noted_back}
 use Rattle.rd_serve.proofs.server.serve_here.Goals as goal
 
 pub returns-clause-counts : goal.returns-clause-counts
@@ -11,3 +18,11 @@ returns-clause-counts g c =
 pub hand_back-requires-clause-given : goal.hand_back-requires-clause-given
 hand_back-requires-clause-given g c κs within =
     λ told is. subst (λ e. Has (Gave c.args.side (ends_told g.E.Give.Source.tells g.E.Take.Sink.tells e)) told) (sym c.of-handed.ensures) (c.requires.given told is)
+
+pub returns-clause-notes : goal.returns-clause-notes
+returns-clause-notes g c =
+    ticked _ c.note_run-ended_at.result (g.C.Clock.tells c.args.clock.now) (g.C.Clock.tells c.note_run-ended_at.new.clock) c.note_run-ended_at.ensures.at (λ start asked.
+    noted_back start c.args.first.now.value.setup (g.E.Doors.tells c.args.doors.now) (g.E.Doors.tells c.hand_back.new.doors) asked c.args.desk.now c.note_run-ended_at.new.desk c.args.begun c.args.side
+    (ends_told g.E.Give.Source.tells g.E.Take.Sink.tells c.args.ends) c.note_run-ended_at.result _ c.hand_back.ensures.told refl c.note_run-ended_at.ensures.drawn c.note_run-ended_at.ensures.let_go
+    (subst (λ (s : Setup). Adds (note_left c.args.begun c.args.side (dialect_number (dialect_on c.args.side s)) c.note_run-ended_at.result (summary_of c.run_visit-ended.result.run.left.report)) c.args.desk.now c.note_run-ended_at.new.desk)
+    (c.run_visit-ended.ensures.counts.setup ∙ c.requires.counts.setup) c.note_run-ended_at.ensures.note))

@@ -1,9 +1,14 @@
 use Rattle.std.proofs.Common.{◌≡◌, arith, None, length, refl, sym, ap, ◌∙◌}
-use Rattle.rd_doors.specs.Visits.{out_of}
+use Rattle.rd_base.specs.declared.values.Side.TheVariants.{Incoming, Outgoing}
+use Rattle.rd_doors.specs.Visits.{Gave, ends_told, out_of}
 use Rattle.rd_run_session.specs.CameTo.{CameTo}
-use Rattle.rd_serve.proofs.Telling.{tells_more, tells_same, keeps_more, keeps_same, gains}
+use Rattle.rd_serve.proofs.Telling.{tells_more, tells_same, keeps_more, keeps_same, keeps_then, gains}
 use Rattle.rd_serve.proofs.Counted.{counted_quiet, counted_same}
 use Rattle.rd_serve.proofs.Outs.{waiting_came, still_out}
+use Rattle.rd_serve.proofs.Noting.{noted_quiet, noted_same, noted_operator, came_next}
+use Rattle.rd_serve.proofs.Times.{all_accounted}
+use Rattle.rd_serve.proofs.Answering.{unasked, by_answers}
+use Rattle.rd_serve.proofs.Live.{kept_still, serve_quiet}
 use Rattle.rd_serve.proofs.server.serve_visit.Goals as goal
 
 -- ---- Client
@@ -60,17 +65,19 @@ receive-requires-in-Callers-clause-given g c κs within = gains (g.E.Doors.tells
 
 pub returns-in-Operator-clause-tells : goal.returns-in-Operator-clause-tells
 returns-in-Operator-clause-tells g c =
-    tells_more (CameTo g.row.E-Give.Denot) c.args.first.now.value.setup (g.E.Doors.tells c.next_visit.new.self) (g.E.Doors.tells c.operator_back.new.self) _ (tells_more (CameTo g.row.E-Give.Denot) c.args.first.now.value.setup (g.E.Doors.tells c.args.doors.now) (g.E.Doors.tells c.next_visit.new.self) _ c.requires.tells c.in-Operator.ensures.told c.in-Operator.ensures.out c.in-Operator.ensures.copies (λ t was. tt)) c.operator_back.ensures.told c.operator_back.ensures.out c.operator_back.ensures.copies (λ t was. tt)
+    tells_more (CameTo g.row.E-Give.Denot) c.args.first.now.value.setup (g.E.Doors.tells c.next_visit.new.self) (g.E.Doors.tells c.answer.new.doors) _ (tells_more (CameTo g.row.E-Give.Denot) c.args.first.now.value.setup (g.E.Doors.tells c.args.doors.now) (g.E.Doors.tells c.next_visit.new.self) _ c.requires.tells c.in-Operator.ensures.told c.in-Operator.ensures.out c.in-Operator.ensures.copies (λ t was. tt)) c.answer.ensures.answers.back.told c.answer.ensures.answers.back.out c.answer.ensures.answers.back.copies (λ t was. tt)
 
 pub returns-in-Operator-clause-counts : goal.returns-in-Operator-clause-counts
 returns-in-Operator-clause-counts g c =
     let now = c.args.runner.now in
-    counted_quiet c.args.first.now.value now (g.E.Doors.tells c.next_visit.new.self) (g.E.Doors.tells c.operator_back.new.self) _ (counted_quiet c.args.first.now.value now (g.E.Doors.tells c.args.doors.now) (g.E.Doors.tells c.next_visit.new.self) _ c.requires.counts c.in-Operator.ensures.told (λ f. refl) (λ P. tt)) c.operator_back.ensures.told (λ f. refl) (λ P. tt)
+    counted_quiet c.args.first.now.value now (g.E.Doors.tells c.next_visit.new.self) (g.E.Doors.tells c.answer.new.doors) _ (counted_quiet c.args.first.now.value now (g.E.Doors.tells c.args.doors.now) (g.E.Doors.tells c.next_visit.new.self) _ c.requires.counts c.in-Operator.ensures.told (λ f. refl) (λ P. tt)) c.answer.ensures.answers.back.told (λ f. refl) (λ P. tt)
 
 pub returns-in-Operator-clause-out : goal.returns-in-Operator-clause-out
 returns-in-Operator-clause-out g c =
-    still_out g.E.Give.Source.tells g.E.Take.Sink.tells c.args.first.now.value.setup (g.E.Doors.tells c.args.doors.now) (g.E.Doors.tells c.operator_back.new.self) None c.args.sessions.now.items c.requires.out (c.operator_back.ensures.out ∙ c.in-Operator.ensures.out)
-    (λ x had. keeps_more (g.E.Doors.tells c.next_visit.new.self) (g.E.Doors.tells c.operator_back.new.self) _ c.operator_back.ensures.told x (keeps_more (g.E.Doors.tells c.args.doors.now) (g.E.Doors.tells c.next_visit.new.self) _ c.in-Operator.ensures.told x had))
+    still_out g.E.Give.Source.tells g.E.Take.Sink.tells c.args.first.now.value.setup (g.E.Doors.tells c.args.doors.now) (g.E.Doors.tells c.answer.new.doors) None c.args.sessions.now.items c.requires.out (c.answer.ensures.answers.back.out ∙ c.in-Operator.ensures.out)
+    (keeps_then (g.E.Doors.tells c.args.doors.now) (g.E.Doors.tells c.next_visit.new.self) (g.E.Doors.tells c.answer.new.doors)
+    (keeps_more (g.E.Doors.tells c.args.doors.now) (g.E.Doors.tells c.next_visit.new.self) _ c.in-Operator.ensures.told)
+    (keeps_more (g.E.Doors.tells c.next_visit.new.self) (g.E.Doors.tells c.answer.new.doors) _ c.answer.ensures.answers.back.told))
 
 -- ---- Quiet
 
@@ -115,3 +122,58 @@ returns-in-Over-clause-counts g c = counted_same c.args.first.now.value c.args.r
 
 pub returns-in-Over-clause-out : goal.returns-in-Over-clause-out
 returns-in-Over-clause-out g c = still_out g.E.Give.Source.tells g.E.Take.Sink.tells c.args.first.now.value.setup (g.E.Doors.tells c.args.doors.now) (g.E.Doors.tells c.next_visit.new.self) None c.args.sessions.now.items c.requires.out c.in-Over.ensures.out (keeps_same (g.E.Doors.tells c.args.doors.now) (g.E.Doors.tells c.next_visit.new.self) c.in-Over.ensures.told)
+
+-- ---- notes
+
+pub returns-in-Quiet-clause-notes : goal.returns-in-Quiet-clause-notes
+returns-in-Quiet-clause-notes g c =
+    unasked _ (g.C.Clock.tells c.args.clock.now) (serve_quiet g.E.Give.Source.tells g.E.Take.Sink.tells c.args.first.now.value.setup (g.E.Doors.tells c.args.doors.now) (g.E.Doors.tells c.next_visit.new.self) c.args.desk.now c.args.desk.now (g.Y.Keeper.tells c.args.keeper.now) (g.Y.Keeper.tells c.args.keeper.now) c.args.sessions.now.items
+    (keeps_same (g.E.Doors.tells c.args.doors.now) (g.E.Doors.tells c.next_visit.new.self) c.in-Quiet.ensures.told)
+    (λ start asked count. noted_same start c.args.first.now.value.setup (g.E.Doors.tells c.args.doors.now) (g.E.Doors.tells c.next_visit.new.self) asked c.args.desk.now (g.Y.Keeper.tells c.args.keeper.now) count 0 c.in-Quiet.ensures.told))
+
+pub returns-in-Failed-clause-notes : goal.returns-in-Failed-clause-notes
+returns-in-Failed-clause-notes g c =
+    unasked _ (g.C.Clock.tells c.args.clock.now) (serve_quiet g.E.Give.Source.tells g.E.Take.Sink.tells c.args.first.now.value.setup (g.E.Doors.tells c.args.doors.now) (g.E.Doors.tells c.next_visit.new.self) c.args.desk.now c.args.desk.now (g.Y.Keeper.tells c.args.keeper.now) (g.Y.Keeper.tells c.args.keeper.now) c.args.sessions.now.items
+    (keeps_same (g.E.Doors.tells c.args.doors.now) (g.E.Doors.tells c.next_visit.new.self) c.in-Failed.ensures.told)
+    (λ start asked count. noted_same start c.args.first.now.value.setup (g.E.Doors.tells c.args.doors.now) (g.E.Doors.tells c.next_visit.new.self) asked c.args.desk.now (g.Y.Keeper.tells c.args.keeper.now) count 0 c.in-Failed.ensures.told))
+
+pub returns-in-NoMemory-clause-notes : goal.returns-in-NoMemory-clause-notes
+returns-in-NoMemory-clause-notes g c =
+    unasked _ (g.C.Clock.tells c.args.clock.now) (serve_quiet g.E.Give.Source.tells g.E.Take.Sink.tells c.args.first.now.value.setup (g.E.Doors.tells c.args.doors.now) (g.E.Doors.tells c.next_visit.new.self) c.args.desk.now c.args.desk.now (g.Y.Keeper.tells c.args.keeper.now) (g.Y.Keeper.tells c.args.keeper.now) c.args.sessions.now.items
+    (keeps_same (g.E.Doors.tells c.args.doors.now) (g.E.Doors.tells c.next_visit.new.self) c.in-NoMemory.ensures.told)
+    (λ start asked count. noted_same start c.args.first.now.value.setup (g.E.Doors.tells c.args.doors.now) (g.E.Doors.tells c.next_visit.new.self) asked c.args.desk.now (g.Y.Keeper.tells c.args.keeper.now) count 0 c.in-NoMemory.ensures.told))
+
+pub returns-in-Over-clause-notes : goal.returns-in-Over-clause-notes
+returns-in-Over-clause-notes g c =
+    unasked _ (g.C.Clock.tells c.args.clock.now) (serve_quiet g.E.Give.Source.tells g.E.Take.Sink.tells c.args.first.now.value.setup (g.E.Doors.tells c.args.doors.now) (g.E.Doors.tells c.next_visit.new.self) c.args.desk.now c.args.desk.now (g.Y.Keeper.tells c.args.keeper.now) (g.Y.Keeper.tells c.args.keeper.now) c.args.sessions.now.items
+    (keeps_same (g.E.Doors.tells c.args.doors.now) (g.E.Doors.tells c.next_visit.new.self) c.in-Over.ensures.told)
+    (λ start asked count. noted_same start c.args.first.now.value.setup (g.E.Doors.tells c.args.doors.now) (g.E.Doors.tells c.next_visit.new.self) asked c.args.desk.now (g.Y.Keeper.tells c.args.keeper.now) count 0 c.in-Over.ensures.told))
+
+pub returns-in-Operator-clause-notes : goal.returns-in-Operator-clause-notes
+returns-in-Operator-clause-notes g c =
+    unasked _ (g.C.Clock.tells c.args.clock.now) (serve_quiet g.E.Give.Source.tells g.E.Take.Sink.tells c.args.first.now.value.setup (g.E.Doors.tells c.args.doors.now) (g.E.Doors.tells c.answer.new.doors) c.args.desk.now c.args.desk.now (g.Y.Keeper.tells c.args.keeper.now) (g.Y.Keeper.tells c.answer.new.keeper) c.args.sessions.now.items
+    (keeps_then (g.E.Doors.tells c.args.doors.now) (g.E.Doors.tells c.next_visit.new.self) (g.E.Doors.tells c.answer.new.doors)
+    (keeps_more (g.E.Doors.tells c.args.doors.now) (g.E.Doors.tells c.next_visit.new.self) _ c.in-Operator.ensures.told)
+    (keeps_more (g.E.Doors.tells c.next_visit.new.self) (g.E.Doors.tells c.answer.new.doors) _ c.answer.ensures.answers.back.told))
+    (λ start asked count. noted_operator start c.args.first.now.value.setup (g.E.Doors.tells c.args.doors.now) (g.E.Doors.tells c.next_visit.new.self) (g.E.Doors.tells c.answer.new.doors)
+    (g.E.Give.Source.tells c.in-Operator.source) c.answer.ensures.answers.source_after (g.E.Take.Sink.tells c.in-Operator.sink) c.answer.ensures.answers.sink_after c.answer.ensures.answers.end
+    asked c.args.desk.now (g.Y.Keeper.tells c.args.keeper.now) (g.Y.Keeper.tells c.answer.new.keeper) count c.in-Operator.ensures.told c.answer.ensures.answers.back.told c.answer.ensures.answers.answers c.answer.ensures.kept
+    (λ t was. all_accounted (CameTo g.row.E-Give.Denot) c.args.first.now.value.setup t (c.requires.tells.served t was))))
+
+pub returns-in-Client-clause-notes : goal.returns-in-Client-clause-notes
+returns-in-Client-clause-notes g c =
+    by_answers _ _ (g.C.Clock.tells c.args.clock.now) (g.C.Clock.tells c.receive.new.clock) (λ more judged start asked had.
+    judged start asked (g.Y.Keeper.tells c.args.keeper.now) had.count
+    (kept_still g.E.Give.Source.tells g.E.Take.Sink.tells start c.args.first.now.value.setup (g.E.Doors.tells c.args.doors.now) (g.E.Doors.tells c.next_visit.new.self) asked c.args.desk.now c.args.desk.now (g.Y.Keeper.tells c.args.keeper.now) (g.Y.Keeper.tells c.args.keeper.now) had.count had.count 0 1 c.args.sessions.now.items (keeps_more (g.E.Doors.tells c.args.doors.now) (g.E.Doors.tells c.next_visit.new.self) _ c.in-Client.ensures.told)
+    (noted_quiet start c.args.first.now.value.setup (g.E.Doors.tells c.args.doors.now) (g.E.Doors.tells c.next_visit.new.self) (Gave Incoming (ends_told g.E.Give.Source.tells g.E.Take.Sink.tells c.in-Client.ends)) asked c.args.desk.now (g.Y.Keeper.tells c.args.keeper.now) had.count 0 1 c.in-Client.ensures.told refl refl (λ before. tt) refl had.kept.noted) had.kept)
+    (came_next start c.args.first.now.value.setup (g.E.Doors.tells c.args.doors.now) (g.E.Doors.tells c.next_visit.new.self) Incoming (ends_told g.E.Give.Source.tells g.E.Take.Sink.tells c.in-Client.ends) asked c.args.desk.now (g.Y.Keeper.tells c.args.keeper.now) had.count c.in-Client.ensures.told had.kept.noted))
+    c.receive.ensures.notes
+
+pub returns-in-Callers-clause-notes : goal.returns-in-Callers-clause-notes
+returns-in-Callers-clause-notes g c =
+    by_answers _ _ (g.C.Clock.tells c.args.clock.now) (g.C.Clock.tells c.receive-in-Callers.new.clock) (λ more judged start asked had.
+    judged start asked (g.Y.Keeper.tells c.args.keeper.now) had.count
+    (kept_still g.E.Give.Source.tells g.E.Take.Sink.tells start c.args.first.now.value.setup (g.E.Doors.tells c.args.doors.now) (g.E.Doors.tells c.next_visit.new.self) asked c.args.desk.now c.args.desk.now (g.Y.Keeper.tells c.args.keeper.now) (g.Y.Keeper.tells c.args.keeper.now) had.count had.count 0 1 c.args.sessions.now.items (keeps_more (g.E.Doors.tells c.args.doors.now) (g.E.Doors.tells c.next_visit.new.self) _ c.in-Callers.ensures.told)
+    (noted_quiet start c.args.first.now.value.setup (g.E.Doors.tells c.args.doors.now) (g.E.Doors.tells c.next_visit.new.self) (Gave Outgoing (ends_told g.E.Give.Source.tells g.E.Take.Sink.tells c.in-Callers.ends)) asked c.args.desk.now (g.Y.Keeper.tells c.args.keeper.now) had.count 0 1 c.in-Callers.ensures.told refl refl (λ before. tt) refl had.kept.noted) had.kept)
+    (came_next start c.args.first.now.value.setup (g.E.Doors.tells c.args.doors.now) (g.E.Doors.tells c.next_visit.new.self) Outgoing (ends_told g.E.Give.Source.tells g.E.Take.Sink.tells c.in-Callers.ends) asked c.args.desk.now (g.Y.Keeper.tells c.args.keeper.now) had.count c.in-Callers.ensures.told had.kept.noted))
+    c.receive-in-Callers.ensures.notes

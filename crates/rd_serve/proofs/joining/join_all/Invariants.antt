@@ -2,8 +2,10 @@ use Rattle.std.proofs.Common.{◌≡◌, None, vec_len}
 use Rattle.rd_run_session.specs.CameTo.{CameTo}
 use Rattle.rd_serve.specs.Serving.{Tells}
 use Rattle.rd_serve.specs.Counting.{CountedBy}
+use Rattle.rd_serve.specs.Noting.{AreLive, NotesStay}
+use Rattle.rd_serve.specs.Operators.{Answering}
 use Rattle.rd_serve.specs.Sessions.{AreOut, HasRoom, KeepsTold}
-use Rattle.rd_serve.proofs.server.join_all.Given as goal
+use Rattle.rd_serve.proofs.joining.join_all.Given as goal
 
 abbrev pub invariant-loop-rt : goal.invariant-loop-rt
 invariant-loop-rt g l =
@@ -13,6 +15,9 @@ invariant-loop-rt g l =
     × HasRoom l.sessions l.flags
     × ((g.E.Doors.tells l.doors).is_over ≡ (g.E.Doors.tells l.initial.doors).is_over)
     × KeepsTold (g.E.Doors.tells l.initial.doors) (g.E.Doors.tells l.doors)
+    × AreLive l.desk.ids l.sessions.items
+    × Answering (NotesStay l.first.value.setup (g.E.Doors.tells l.initial.doors) (g.E.Doors.tells l.doors) g.E.Give.Source.tells g.E.Take.Sink.tells l.initial.desk l.desk l.initial.sessions.items l.sessions.items)
+    (g.C.Clock.tells l.initial.clock) (g.C.Clock.tells l.clock)
 
 abbrev pub decreases-loop-rt : goal.decreases-loop-rt
 decreases-loop-rt g l = vec_len l.sessions

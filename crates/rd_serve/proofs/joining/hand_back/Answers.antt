@@ -4,7 +4,7 @@ use Rattle.rd_runner.specs.Runs.{Ran}
 use Rattle.rd_run_session.specs.CameTo.{CameTo}
 use Rattle.rd_serve.proofs.Telling.{tells_more, keeps_more}
 use Rattle.rd_serve.proofs.Outs.{same_marks}
-use Rattle.rd_serve.proofs.server.hand_back.Goals as goal
+use Rattle.rd_serve.proofs.joining.hand_back.Goals as goal
 
 pub give_back-requires-clause-links : goal.give_back-requires-clause-links
 give_back-requires-clause-links g c κs within = record {
