@@ -1,7 +1,10 @@
-// Sessions that are served side by side over doors in memory, as a test, and the links that they run over.
+// Sessions that are served, side by side over doors in memory and over real connections, as tests, and the links in
+// memory that they run over.
 #![tactic(auto)]
 
 mod links;
+#[cfg(test)]
+mod sockets;
 #[cfg(test)]
 mod tests;
 

@@ -4,11 +4,14 @@ ghost use Rattle.rd_base.specs.Limits.{AreLimits};
 use crate::{CountingSink, Marks, Sent, WaitingSource};
 use rd_base::{Ending, MemClock, MemStopper};
 use rd_conf::{Settings, default_settings};
+use rd_desk::Desk;
 use rd_doors::{Doors, Ends, Visit};
+use rd_keeper::{Keeper, MemKeeper};
 use rd_mem_doors::{MemDoors, Told};
 use rd_run_session::{SessionLeft, SessionRunner};
 use rd_serve::serve;
 use rd_start::ThreadSpawner;
+use rd_token_map::NoBook;
 use std::alloc::Global;
 use std::rt::Clock;
 use std::sync::atomic::AtomicU64;
@@ -92,11 +95,11 @@ fn doors_of<R: Clock + Wait + Copy + Send + 'static>(
 }
 
 /// A runner by the settings of a file that says nothing.
-fn runner_of<R: Wait + Threads + Copy>(
+pub fn runner_of<R: Wait + Threads + Copy>(
     rt: R,
     alloc: Global,
     settings: Settings,
-) -> SessionRunner<ThreadSpawner, MemClock, MemStopper, R>
+) -> SessionRunner<ThreadSpawner, MemClock, MemStopper, NoBook, R>
     requires { AreLimits settings.limits }
     ensures { result.setup.limits ≡ settings.limits }
 {
@@ -110,6 +113,7 @@ fn runner_of<R: Wait + Threads + Copy>(
         ThreadSpawner::new(),
         MemClock::new(alloc, Vec::new(alloc)),
         MemStopper::new(alloc, Vec::new(alloc)),
+        NoBook,
     )
 }
 
@@ -133,6 +137,19 @@ fn runs_of<R: Clock + Wait + Copy>(
     Ok(runs)
 }
 
+/// Whether there are so many notes, with ids from 1, of clients that were done after one exchange of lines.
+pub fn has_notes(keeper: &mut MemKeeper, count: u64) -> bool {
+    for id in 1..=count {
+        let Ok(Some(note)) = keeper.one(id) else {
+            return false;
+        };
+        if (note.side, note.dialect, note.exchanges, note.code) != (0, 0, 1, 0) {
+            return false;
+        }
+    }
+    keeper.greatest() == Ok(Some(count))
+}
+
 /// One client; and two, of whom the second has to be answered before the first can be.
 #[test]
 fn clients_side_by_side(rt: HostRuntime) -> Result<(), Fail> {
@@ -143,9 +160,24 @@ fn clients_side_by_side(rt: HostRuntime) -> Result<(), Fail> {
         let settings = default_settings(alloc)?;
         assert!(rt; doors.make_ports(alloc, &settings).is_ok());
         let mut runner = runner_of(rt, alloc, settings);
-        assert!(rt; serve(rt, alloc, &mut doors, &mut runner).is_ok());
+        let mut keeper = MemKeeper::new(alloc, Vec::new(alloc));
+        let mut clock = MemClock::new(alloc, Vec::new(alloc));
+        let Ok(desk) = Desk::open(alloc, &mut keeper) else {
+            panic!(rt; "no desk");
+        };
+        let served = serve(
+            rt,
+            alloc,
+            &mut doors,
+            &mut runner,
+            desk,
+            &mut clock,
+            &mut keeper,
+        );
+        assert!(rt; served.is_ok());
         let runs = runs_of(alloc, doors.told())?;
         assert_eq!(rt; runs.as_slice(), wanted);
+        assert!(rt; has_notes(&mut keeper, clients));
     }
     Ok(())
 }
