@@ -52,7 +52,10 @@ stop() {
 
 explain() {
     case $1 in
-        4) echo "rddr: status 4: the settings couldn't be read: see that the file is there and may be read" >&2 ;;
+        4)
+            echo "rddr: status 4: the settings couldn't be read, or the file of notes (ports.records) couldn't be opened" \
+                "or written: see that both may be" >&2
+            ;;
         5) echo "rddr: status 5: standard output couldn't be written: see where it goes, and whether that is full" >&2 ;;
         6) echo "rddr: status 6: memory ran out: give it more, or lower unit_max" >&2 ;;
         7)

@@ -3,36 +3,47 @@
 
 - `http`: curl, and wrk with 32 connections and a 33rd, before three nginx.
 - `browser`: headless Chromium fetches a form from the three nginx and posts it.
+- `forms`: curl with a cookie jar, and Chromium, fetch a form over one connection and post it over another, before three
+  nginx that close each connection, each before an application that takes its own tokens and cookies alone.
 - `postgres`: psql, `pgbench -S` in its three query modes, pgbench's own script with one client, and psycopg2, before
   three PostgreSQL servers, of which one then loses a backend to a KILL.
 - `calls`: three curl and three psql call one nginx and one PostgreSQL server through the outgoing side.
 - `trouble`: a port that is taken, a client that stops reading, one that sends a byte a second, 200 clients at once, a
   backend that closes, an instance that is killed amid a reply, one that is down; what stays open behind them, and what
   32 idle sessions cost.
+- `notes`: an operator's pages by curl, the file of notes by SQLite, a second start over it, a file that is no such
+  database.
 
 Words choose parts; without any all are tried. What isn't installed (Debian's nginx-light, wrk, chromium, postgresql,
 python3-psycopg2) is named and left out.
 """
 
 import argparse
+import contextlib
 import http.client
+import http.cookies
 import http.server
+import json
 import os
 import pwd
 import re
+import secrets
 import shutil
 import signal
 import socket
+import sqlite3
 import subprocess
 import sys
 import tempfile
+import threading
 import time
+import urllib.parse
 
 import record_http
 import record_postgres
 from recording import HOST, ROOT, free_port, wait_for_port
 
-PARTS = ("http", "browser", "postgres", "calls", "trouble")
+PARTS = ("http", "browser", "forms", "postgres", "calls", "trouble", "notes")
 COPIES = 3
 SESSIONS = 32
 MEGA_LINES = 65_536  # of 16 bytes each
@@ -41,14 +52,17 @@ MEGA_LINES = 65_536  # of 16 bytes each
 class Proxy:
     """A running `rddr run`, before these instances or behind these callers."""
 
-    def __init__(self, program, folder, dialect, instances, backend=None, **limits):
+    def __init__(self, program, folder, dialect, instances, backend=None, records=None, **limits):
         self.port = free_port()
+        self.operator = free_port() if records else None
         self.callers = [free_port() for _ in range(COPIES)] if backend else []
         lines = ["version = 2", f"copies = {COPIES}", f'incoming = "{dialect}"', f'outgoing = "{dialect}"']
         lines += [f"{key} = {value}" for key, value in limits.items()]
         lines += ["[ports]", f'listen = "{HOST}:{self.port}"', f"instances = {addresses(instances)}"]
         if backend:
             lines += [f"callers = {addresses(self.callers)}", f'backend = "{HOST}:{backend}"']
+        if records:
+            lines += [f'operator = "{HOST}:{self.operator}"', f'records = "{records}"']
         self.settings = os.path.join(folder, f"{self.port}.toml")
         with open(self.settings, "w", encoding="ascii") as file:
             file.write("\n".join(lines) + "\n")
@@ -58,7 +72,7 @@ class Proxy:
                 break
         else:
             sys.exit("rddr did not serve")
-        self.idle = self.settled()
+        self.idle = None if records else self.settled()
 
     def served(self):
         """The process that serves, and not the shell that started it."""
@@ -209,25 +223,95 @@ def try_http(results, program, folder):
         servers.end()
 
 
+def chromium(folder, name, port):
+    """What headless Chromium shows behind the form that it fetches and posts."""
+    words = ["--headless", "--no-sandbox", "--disable-gpu", "--disable-dev-shm-usage", "--no-first-run",
+             "--disable-background-networking", "--disable-component-update", "--disable-sync",
+             "--host-resolver-rules=MAP * ~NOTFOUND , EXCLUDE 127.0.0.1", "--virtual-time-budget=8000"]
+    own = [f"--user-data-dir={folder}/chromium-{name}", "--dump-dom", f"http://{HOST}:{port}/app/form"]
+    shown = run(["chromium", *words, *own], cwd=folder, env={**os.environ, "HOME": folder})
+    return (re.findall(rb"Ordered:.*", shown) or [shown])[-1]
+
+
 def try_browser(results, program, folder):
     if not is_here("nginx", "chromium"):
         return
     servers = WebServers(folder)
     try:
         proxy = Proxy(program, folder, "http", servers.ports())
-        words = ["--headless", "--no-sandbox", "--disable-gpu", "--disable-dev-shm-usage", "--no-first-run",
-                 "--disable-background-networking", "--disable-component-update", "--disable-sync",
-                 "--host-resolver-rules=MAP * ~NOTFOUND , EXCLUDE 127.0.0.1", "--virtual-time-budget=8000"]
-        pages = []
-        for number, port in enumerate((proxy.port, servers.ports()[0])):
-            own = [f"--user-data-dir={folder}/chromium-{number}", "--dump-dom", f"http://{HOST}:{port}/app/form"]
-            shown = run(["chromium", *words, *own], cwd=folder, env={**os.environ, "HOME": folder})
-            pages += re.findall(rb"Ordered:.*", shown) or [shown]
+        pages = [chromium(folder, number, port) for number, port in enumerate((proxy.port, servers.ports()[0]))]
         results.say("chromium posts a form", pages[0].startswith(b"Ordered:"), pages[0].decode(errors="replace")[-300:])
         results.same("chromium, the page behind the form", *(re.sub(rb"[0-9a-f]{16,}", b"TOKEN", one) for one in pages))
         proxy.stop(results)
     finally:
         servers.end()
+
+
+class Shop(record_http.Application):
+    """A form with a token, and a cookie, of this instance's own; an order is taken only with both."""
+
+    def do_GET(self):
+        token, visit = secrets.token_hex(16), secrets.token_hex(16)
+        self.server.given.add((token, visit))
+        self.answer(200, "text/html; charset=utf-8", record_http.FORM.format(token=token).encode(),
+                    ("Cache-Control", "no-store"), ("Set-Cookie", f"visit={visit}; Path=/"))
+
+    def do_POST(self):
+        fields = urllib.parse.parse_qs(self.content().decode())
+        cookies = http.cookies.SimpleCookie(self.headers.get("Cookie", ""))
+        shown = tuple(fields.get("token", [])) + tuple(cookie.value for cookie in cookies.values())
+        if shown in self.server.given:
+            self.answer(200, "text/html; charset=utf-8", record_http.DONE.format(item="chairs").encode())
+        else:
+            self.answer(403, "text/plain", b"Not mine.\n")
+
+
+def start_shop(folder, number):
+    """An nginx that closes each connection, before a shop of its own."""
+    shop = record_http.Quiet((HOST, 0), Shop)
+    shop.given = set()
+    threading.Thread(target=shop.serve_forever, daemon=True).start()
+    program, text, words, user = record_http.SERVERS["nginx"]
+    record_http.SERVERS["closing"] = (program, text.replace("absolute_redirect off;", "keepalive_timeout 0;"), words, user)
+    own = os.path.join(folder, f"closing-{number}")
+    os.mkdir(own)
+    os.chmod(own, 0o777)
+    return shop, *record_http.start_server("closing", own, own, shop.server_port)
+
+
+def order(folder, name, asked, port):
+    """What curl is answered that fetches a form from the first of these ports and posts it to the second."""
+    jar, words = os.path.join(folder, f"jar-{name}"), ["curl", "-q", "-s", "--max-time", "20"]
+    page = run([*words, "-c", jar, f"http://{HOST}:{asked}/app/form"])
+    token = re.search(rb'name="token" value="([0-9a-f]+)"', page)
+    if not token:
+        return page
+    return run([*words, "-b", jar, "-d", f"token={token[1].decode()}&item=chairs", f"http://{HOST}:{port}/app/form"])
+
+
+def try_forms(results, program, folder):
+    if not is_here("nginx", "curl"):
+        return
+    shops = [start_shop(folder, number) for number in range(COPIES)]
+    ports = [port for _, _, port in shops]
+    try:
+        proxy = Proxy(program, folder, "http", ports)
+        results.say("an instance takes no token of another", b"Not mine." in order(folder, "other", ports[0], ports[1]))
+        for number in range(3):
+            shown = order(folder, number, proxy.port, proxy.port)
+            results.say(f"curl posts a form over another connection, {number + 1}", b"Ordered: chairs" in shown,
+                        shown.decode(errors="replace")[-300:])
+        if is_here("chromium"):
+            shown = chromium(folder, "forms", proxy.port)
+            results.say("chromium posts a form over another connection", shown.startswith(b"Ordered:"),
+                        shown.decode(errors="replace")[-300:])
+        results.same("sessions are over", proxy.settled(proxy.idle), proxy.idle)
+        proxy.stop(results)
+    finally:
+        for shop, server, _ in shops:
+            server.terminate()
+            server.wait(20)
+            shop.shutdown()
 
 
 # ---- PostgreSQL
@@ -597,6 +681,89 @@ def try_trouble(results, program, folder):
         instances.end()
 
 
+# ---- notes and pages
+
+
+def asked(proxy, path, *words):
+    """What an operator is answered: the status and the body."""
+    given = ["curl", "-q", "-s", "--max-time", "10", "-w", " %{http_code}", *words]
+    given += [f"http://{HOST}:{proxy.operator}{path}"]
+    body, status = subprocess.run(given, stdout=subprocess.PIPE, timeout=20, check=False).stdout.decode().rsplit(" ", 1)
+    return int(status), json.loads(body)
+
+
+def ids_of(answer):
+    return [note["id"] for note in answer[1]["sessions"]]
+
+
+def kept(records):
+    with contextlib.closing(sqlite3.connect(records)) as file:
+        return file.execute("SELECT id, side, dialect, exchanges, code FROM sessions ORDER BY id").fetchall()
+
+
+def try_pages(results, proxy):
+    none = {"exchanges": 0, "masked": 0, "sessions": 0, "unkept": 0}
+    results.same("nobody came yet", asked(proxy, "/totals"), (200, none))
+    for _ in range(3):
+        page(proxy.port)
+    time.sleep(1)
+    results.same("the totals", asked(proxy, "/totals"), (200, {**none, "exchanges": 3, "sessions": 3}))
+    results.same("the notes", ids_of(asked(proxy, "/sessions")), [1, 2, 3])
+    results.same("the notes from an id on", ids_of(asked(proxy, "/sessions/from/2")), [2, 3])
+    one = asked(proxy, "/sessions/2")[1]
+    results.same("a note", [one[key] for key in ("id", "side", "dialect", "exchanges", "code")], [2, 0, 1, 1, 0])
+    results.say("its moments", 0 <= time.time() * 1000 - one["ended"] < 60_000 and one["began"] <= one["ended"])
+    refused = [asked(proxy, path)[0] for path in ("/sessions/9", "/nothing", "/sessions/x")]
+    results.same("no such note, no such page, no id", refused, [404, 404, 400])
+    results.same("another method", asked(proxy, "/live", "-X", "POST")[0], 405)
+    bystander = Bystander(proxy.port)
+    results.say("a client beside them", bystander.is_served())
+    results.same("a session that runs", asked(proxy, "/live"), (200, {"live": 1}))
+    silent = socket.create_connection((HOST, proxy.operator))
+    results.say("a client beside a silent operator", bystander.is_served())
+    seconds, got = seconds_to_close(silent, 10)
+    results.say("a silent operator", seconds is not None and got == b"", f"closed after {seconds or 10:.1f} s")
+    bystander.link.close()
+    time.sleep(1)
+
+
+def try_other_file(results, program, proxy, folder):
+    """A file that is no database, under the name of one that keeps notes."""
+    with open(proxy.settings, encoding="ascii") as file:
+        text = file.read().replace("notes.db", "other.db")
+    other, settings = os.path.join(folder, "other.db"), os.path.join(folder, "other.toml")
+    for name, said in ((other, "no database"), (settings, text)):
+        with open(name, "w", encoding="ascii") as file:
+            file.write(said)
+    done = subprocess.run([program, "run", settings], stdin=subprocess.DEVNULL, stderr=subprocess.PIPE, timeout=60,
+                          check=False)
+    results.say("a file that is no database", done.returncode == 4 and b"status 4" in done.stderr,
+                f"status {done.returncode}, {done.stderr.decode().strip()}")
+    with open(other, encoding="ascii") as file:
+        results.same("it is left as it was", file.read(), "no database")
+
+
+def try_notes(results, program, folder):
+    if not is_here("curl"):
+        return
+    instances = Instances()
+    records = os.path.join(folder, "notes.db")
+    try:
+        proxy = Proxy(program, folder, "http", instances.ports, records=records)
+        try_pages(results, proxy)
+        proxy.stop(results)
+        wanted = [(number, 0, 1, 1 if number < 4 else 2, 0) for number in range(1, 5)]
+        results.same("the file's notes", kept(records), wanted)
+        proxy = Proxy(program, folder, "http", instances.ports, records=records)
+        page(proxy.port)
+        time.sleep(1)
+        results.same("a second start goes on behind them", ids_of(asked(proxy, "/sessions")), [1, 2, 3, 4, 5])
+        proxy.stop(results)
+        try_other_file(results, program, proxy, folder)
+    finally:
+        instances.end()
+
+
 def main():
     parser = argparse.ArgumentParser(description=__doc__.splitlines()[0])
     parser.add_argument("parts", nargs="*", metavar="PART", help=f"of {', '.join(PARTS)}")
@@ -605,8 +772,8 @@ def main():
     given = parser.parse_args()
     if given.instance:
         http.server.ThreadingHTTPServer((HOST, given.instance), Instance).serve_forever()
-    parts = {"http": try_http, "browser": try_browser, "postgres": try_postgres, "calls": try_calls,
-             "trouble": try_trouble}
+    parts = {"http": try_http, "browser": try_browser, "forms": try_forms, "postgres": try_postgres, "calls": try_calls,
+             "trouble": try_trouble, "notes": try_notes}
     results = Results()
     for name in given.parts or PARTS:
         began = time.monotonic()
