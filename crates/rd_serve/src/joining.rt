@@ -1,34 +1,25 @@
-ghost use Rattle.std.specs.Prelude.{◌≡◌, ℕ, ◌+◌, ◌<◌, ◌≤◌, [], List, Some, None, true, false, is_some, length, IfOk, IfSome, OnOk, Err, vec_len, vec_capacity};
+ghost use Rattle.std.specs.Prelude.{◌≡◌, ◌+◌, ◌<◌, [], List, Some, None, false, length, IfSome, vec_len};
 ghost use Rattle.rd_doors.specs.Visits.{Entry, Gave, CameBack, AreFresh, Holds, without, entries_with, ends_told, run_told};
 ghost use Rattle.rd_runner.specs.Runs.{Ran};
-ghost use Rattle.rd_runner.specs.Counts.{RoseBy};
 ghost use Rattle.rd_run_session.specs.CameTo.{CameTo};
 ghost use Rattle.rd_run_session.specs.declared.left.SessionLeft.{SessionLeft};
-ghost use Rattle.rd_serve.specs.Serving.{Tells, IsServed, Has, times_given, times_ended};
-ghost use Rattle.rd_serve.specs.Counting.{CountedBy, EachRun, IsWithin, times_stopped, times_unstarted};
+ghost use Rattle.rd_serve.specs.Serving.{Tells, Has};
+ghost use Rattle.rd_serve.specs.Counting.{CountedBy};
 ghost use Rattle.rd_serve.specs.Sessions.{AreOut, Keeps, KeepsTold, HasRoom};
-ghost use Rattle.rd_serve.specs.Notes.{HasIds};
-ghost use Rattle.rd_serve.specs.Noting.{IsKeepable, AreLive, AreKept, NotesRun, NotesStay, NotesVisit};
-ghost use Rattle.rd_serve.specs.Operators.{Answered, Answering};
+ghost use Rattle.rd_serve.specs.Noting.{IsKeepable, AreLive, NotesRun, NotesStay};
+ghost use Rattle.rd_serve.specs.Operators.{Answering};
 ghost use Rattle.rd_base.specs.Clocks.{Ticks};
-ghost use Rattle.rd_base.specs.Outside.{Rose};
-ghost use Rattle.rd_desk.specs.Desk.{Start, IsAt};
 ghost use Rattle.rd_desk.specs.Noted.{Adds, StillUnkept, note_left, without_id};
 ghost use Rattle.rd_desk.specs.Notes.{dialect_number};
-ghost use Rattle.rd_operator.specs.Replies.{StaysKept};
 ghost use Rattle.rd_run_session.specs.Dialects.{dialect_on};
 ghost use Rattle.rd_run_session.specs.Left.{summary_of};
 
 use crate::session::{SESSIONS, Served, Session};
-use rd_base::{Clock, NoMemory, Side, Sink, Source, Stopper};
-use rd_desk::{Begun, Desk, begin_session, dialect_number, end_session};
-use rd_doors::{Doors, Ends, Visit};
-use rd_keeper::{KeepFail, Keeper};
+use rd_base::{Clock, Side, Sink, Source, Stopper};
+use rd_desk::{Begun, Desk, dialect_number, end_session};
+use rd_doors::{Doors, Ends};
 use rd_lent_book::LentBook;
-use rd_operator::operator_once;
-use rd_run_session::{
-    SessionLeft, SessionRunner, another_runner, dialect_of, run_visit, take_in_runner,
-};
+use rd_run_session::{SessionLeft, SessionRunner, dialect_of, take_in_runner};
 use rd_runner::Ended;
 use rd_start::Spawner;
 use std::alloc::Global;
