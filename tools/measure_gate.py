@@ -35,6 +35,12 @@ def has_tests(folder):
     return False
 
 
+def lines_of(top):
+    """What each crate of crates.txt stands on."""
+    with open(f"{top}/crates.txt", encoding="utf-8") as file:
+        return dict(re.match(r"(\w+)[^:]*:(.*)", it).groups() for it in file if ":" in it and not it.startswith("#"))
+
+
 def renamed(crate, top):
     """Copies the repository's crates, and gives this one another name: rt finds what it kept by the name, here and in
     other checkouts, so nothing that was proved before is taken. Returns the new name."""
@@ -51,19 +57,22 @@ def renamed(crate, top):
             text = file.read()
         with open(path, "w", encoding="utf-8") as file:
             file.write(word.sub(name, text))
-    with open(f"{top}/crates.txt", encoding="utf-8") as file:
-        lines = file.read().splitlines()
-    own = [it for it in lines if re.match(rf"{crate}\b", it)]
+    lines = lines_of(top)
+    below, more = set(), lines[crate].split()
+    while more:
+        at = more.pop()
+        if at in lines and at not in below:
+            below.add(at)
+            more += lines[at].split()
     with open(f"{top}/crates.txt", "w", encoding="utf-8") as file:
-        file.write("\n".join([it for it in lines if not word.search(it)] + [word.sub(name, it) for it in own]) + "\n")
+        file.writelines(f"{it}:{lines[it]}\n" for it in sorted(below))
+        file.write(f"{name}:{lines[crate]}\n")
     return name
 
 
 def build_below(crate, top):
     """Proves and builds what a crate stands on, so that it isn't measured with it."""
-    with open(f"{top}/crates.txt", encoding="utf-8") as file:
-        below = dict(re.match(r"(\w+)[^:]*:(.*)", it).groups() for it in file if ":" in it)
-    for name in below[crate].split():
+    for name in lines_of(top)[crate].split():
         if os.path.isdir(f"{top}/crates/{name}"):
             run(f"{top}/crates/{name}", "lib")
 
