@@ -20,8 +20,3 @@ pub use http::Http;
 pub use laws::{copy_laws, token_laws};
 pub use stage::{Stage, Standing, Stated};
 pub use step::Found;
-
-#[cfg(test)]
-mod copy_tests;
-#[cfg(test)]
-mod tests;

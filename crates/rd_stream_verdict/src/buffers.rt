@@ -44,7 +44,8 @@ impl Model for Buffers {
 impl Buffers {
     /// Of so many copies that have said nothing yet.
     pub(crate) fn new(alloc: Global, count: u8) -> Result<Buffers, NoMemory>
-        ensures { IfOk result (λ copies. copies ≡ replicate count (record { fed = 0; waiting = []; is_whole = false })) }
+        ensures { IfOk result (λ copies. copies
+            ≡ replicate count (record { fed = 0; waiting = []; is_whole = false })) }
     {
         let mut kept = Vec::new(alloc);
         for i in 0..count {
@@ -129,7 +130,9 @@ impl Buffers {
     #[inline(always)]
     pub(crate) fn are_same_with(&self, copy: usize, token: &TokenRef) -> bool
         requires { copy < length self.now }
-        ensures { result ≡ true → heads_with copy (Some token.now) self.now ≡ replicate (length self.now) (Some token.now) }
+        ensures { result ≡ true
+            → heads_with copy (Some token.now) self.now
+            ≡ replicate (length self.now) (Some token.now) }
     {
         is_last(copy, self.sharers, self.kept.len()) && self.shared.is(token)
     }
@@ -146,7 +149,8 @@ impl Buffers {
         requires there { copy < length self.now }
         requires three { 3 ≤ length self.now }
         requires few { length self.now ≤ 8 }
-        ensures { result ≡ heads_judged most place masked (heads_with copy (Some token.entry) self.now) }
+        ensures { result ≡ heads_judged most place masked
+            (heads_with copy (Some token.entry) self.now) }
     {
         let kept = self.kept.as_slice();
         let heads = heads_with(kept, &self.shared, self.sharers, copy, Some(token));
@@ -203,7 +207,8 @@ impl Buffers {
     fn wait_apart(&mut self, copy: usize, kind: TokenKind, text: &[u8]) -> Result<(), NoMemory>
         requires there { copy < length self.old }
         requires fewer { IfSome (slice_get self.old copy) (λ c. c.fed < 2 ^ 32 - 1) }
-        ensures ok { OnOk result (self.new ≡ at_place (waits (token kind text.now)) copy self.old) }
+        ensures ok { OnOk result
+            (self.new ≡ at_place (waits (token kind text.now)) copy self.old) }
         ensures err { OnErr result (self.new ≡ self.old) }
     {
         self.kept[copy].wait(&TokenRef::new(kind, text))?;

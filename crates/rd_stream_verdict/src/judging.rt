@@ -97,7 +97,8 @@ fn row_of(heads: &[Option<TokenRef>]) -> Option<Row>
 
 /// The word, if a row may hold it.
 fn row_word(word: &[u8]) -> Option<&[u8]>
-    ensures word { option_map (λ w. w.now) result ≡ (if is_row_word word.now then Some word.now else None) }
+    ensures word { option_map (λ w. w.now) result
+        ≡ (if is_row_word word.now then Some word.now else None) }
     ensures fits { IfSome result (λ w. IsRowWord w.now) }
 {
     if is_row_word(word) { Some(word) } else { None }

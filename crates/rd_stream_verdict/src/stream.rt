@@ -98,8 +98,11 @@ impl StreamVerdict {
     /// The fault at the least judged place that has one; else Agreed where all copies are closed; else None.
     pub fn answer(&self) -> Option<Verdict>
         ensures kept { result ≡ kept_answer self.now }
-        ensures said { (said : List Heard) → IsAt said self.now → result ≡ answer self.now.most said }
-        ensures whole { (said : List Heard) → IsAt said self.now → list_all (λ copy. copy.is_whole) said ≡ true → result ≡ Some (verdict self.now.most (lists_of said)) }
+        ensures said { (said : List Heard) → IsAt said self.now
+            → result ≡ answer self.now.most said }
+        ensures whole { (said : List Heard) → IsAt said self.now
+            → list_all (λ copy. copy.is_whole) said ≡ true
+            → result ≡ Some (verdict self.now.most (lists_of said)) }
     {
         self.found_so_far()
     }
@@ -109,7 +112,8 @@ impl StreamVerdict {
     pub fn kept(&self, copy: u8) -> usize
         requires { copy < length self.now.copies }
         ensures bytes { result ≡ kept_bytes copy self.now }
-        ensures most { (said : List Heard) → IsAt said self.now → result ≤ unjudged_bytes copy said + 8192 }
+        ensures most { (said : List Heard) → IsAt said self.now
+            → result ≤ unjudged_bytes copy said + 8192 }
     {
         self.copies.bytes(copy as usize) + bytes_of(&self.rows, copy)
     }
@@ -118,7 +122,9 @@ impl StreamVerdict {
     pub fn learnt(&self) -> Result<Rows, NoMemory>
         requires { agrees (kept_answer self.now) ≡ true }
         ensures kept { IfOk result (λ rows. rows ≡ self.now.rows) }
-        ensures said { (said : List Heard) → (mask : List ℕ) → IsAt said self.now → answer self.now.most said ≡ Some (Agreed mask) → IfOk result (λ rows. rows ≡ rows_at (lists_of said) mask) }
+        ensures said { (said : List Heard) → (mask : List ℕ) → IsAt said self.now
+            → answer self.now.most said ≡ Some (Agreed mask)
+            → IfOk result (λ rows. rows ≡ rows_at (lists_of said) mask) }
     {
         let mut rows = Rows::new(self.alloc);
         for index in 0..self.rows.len() {
@@ -151,8 +157,10 @@ impl StreamVerdict {
     pub fn can_take(&self, copy: u8) -> bool
         ensures exact { result ≡ can_take (slice_get self.now.copies copy) }
         ensures there { result ≡ true → copy < length self.now.copies }
-        ensures open { result ≡ true → IfSome (slice_get self.now.copies copy) (λ c. c.is_whole ≡ false) }
-        ensures fewer { result ≡ true → IfSome (slice_get self.now.copies copy) (λ c. c.fed < 2 ^ 32 - 1) }
+        ensures open { result ≡ true
+            → IfSome (slice_get self.now.copies copy) (λ c. c.is_whole ≡ false) }
+        ensures fewer { result ≡ true
+            → IfSome (slice_get self.now.copies copy) (λ c. c.fed < 2 ^ 32 - 1) }
     {
         self.copies.can_take(copy as usize)
     }
@@ -301,6 +309,3 @@ fn keep_row(rows: &mut Rows, row: Option<Row>) -> Result<(), NoMemory>
         None => Ok(()),
     }
 }
-
-#[cfg(test)]
-mod tests;

@@ -1,7 +1,7 @@
 use Rattle.std.proofs.Common.{◌≤◌, ◌-◌, length}
 use Rattle.std.specs.List.{All}
 use Rattle.rd_verdict.specs.LiesIn.{LiesIn}
-use Rattle.rd_stream_verdict.proofs.stream.tests.cut_words.Given as goal
+use Rattle.rd_stream_rows.proofs.verdicts.cut_words.Given as goal
 
 abbrev pub invariant-loop-start : goal.invariant-loop-start
 invariant-loop-start l = record {

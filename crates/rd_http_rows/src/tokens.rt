@@ -2,9 +2,9 @@ ghost use Rattle.std.specs.Prelude.{◌≡◌, true};
 ghost use Rattle.rd_dialect.specs.Grammar.{IsReply};
 ghost use Rattle.rd_http_tokens.specs.HttpOn.{http_on};
 
-use crate::Http;
 use rd_base::{Bytes, NameRules, Names, NoMemory, Note, Part, Phase, Scan, Side, TokenKind};
 use rd_dialect::Dialect;
+use rd_http_tokens::Http;
 use std::alloc::Global;
 use std::process::Abort;
 
@@ -209,7 +209,8 @@ fn is_noted(rt: &impl Abort, http: &Http, request: &[u8], note: Note) {
 
 /// Whether these bytes are a whole reply.
 fn is_reply(http: &Http, note: Note, reply: &[u8]) -> bool
-    ensures { result ≡ true → IsReply (http_on http.now.side http.now.rules) (record { 0 = 0 }) note reply.now }
+    ensures { result ≡ true
+        → IsReply (http_on http.now.side http.now.rules) (record { 0 = 0 }) note reply.now }
 {
     http.scan_reply(PHASE, note, reply, false) == Scan::Whole(reply.len())
 }

@@ -1,8 +1,8 @@
 ghost use Rattle.std.specs.Prelude.{◌≡◌, ◌≤◌, length};
 
-use crate::Http;
 use rd_base::{Bytes, NameRules, Names, NoMemory, Note, Phase, Row, Rows, Scan, Side, is_row_word};
 use rd_dialect::Dialect;
+use rd_http_tokens::Http;
 use std::alloc::Global;
 use std::process::Abort;
 

@@ -2,8 +2,8 @@ ghost use Rattle.std.specs.Prelude.{◌≡◌, ◌≤◌, ◌<◌, ◌^◌, ◌+
 ghost use Rattle.rd_base.specs.Limits.{AreMaskLimits};
 ghost use Rattle.rd_verdict.specs.LiesIn.{LiesIn};
 
-use super::StreamVerdict;
 use rd_base::{Bytes, MaskLimits, NoMemory, Row, Rows, TokenKind, TokenSpan, Verdict, cut_at};
+use rd_stream_verdict::StreamVerdict;
 use rd_verdict::{Copies, Spans, judge, rows_of};
 use std::alloc::{AllocError, Global};
 use std::process::Abort;

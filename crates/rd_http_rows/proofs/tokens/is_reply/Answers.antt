@@ -1,7 +1,7 @@
 use Rattle.std.proofs.Common.{◌≡◌, rules, length, false, sym, ◌∙◌}
 use Rattle.rd_base.specs.declared.values.Scan.TheVariants.{Whole}
 use Rattle.rd_dialect.specs.Grammar.IsReply.{Scanned}
-use Rattle.rd_http_tokens.proofs.tests.is_reply.Goals as goal
+use Rattle.rd_http_rows.proofs.tokens.is_reply.Goals as goal
 
 pub returns : goal.returns
 returns c =
