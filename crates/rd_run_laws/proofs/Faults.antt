@@ -54,6 +54,11 @@ unfolding says
 log_says l [] left told = refl
 log_says l (e ∷ log) left told = both _ _ _ _ (act_says l left e.act) (log_says l log (left_by e.act left) (drop e.told told))
 
+-- a failed write stands in the history that a log stands for where it stands in the log
+pub drawn_says : (l : ℕ) (log : List LogEntry) (left : ℕ → List Item) (told : List Row) → list_any (λ e. write_fails l e.what) (draw log left told) ≡ has_write_fail l log
+unfolding says
+drawn_says l log left told = log_says l log left told
+
 step_says : (l at : ℕ) (did : Did) (told : List Row) → says l (step_of at did told) ≡ false
 unfolding says
 step_says l at (Took m (item.Piece b)) told = refl

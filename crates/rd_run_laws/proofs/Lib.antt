@@ -1,3 +1,6 @@
 mod Stamps
 mod Stops
 mod Faults
+mod Endings
+mod FailedReads
+mod Links

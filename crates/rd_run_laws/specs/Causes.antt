@@ -1,16 +1,24 @@
--- What causes the entries of a log.
-use Rattle.std.specs.Prelude.{◌≡◌, ◌≢◌, ◌≤◌, ◌<◌, ◌^◌, ◌-◌, ◌==◌, ◌⊎◌, ℕ, Bool, true, false, List}
+-- What causes the entries of a log, and a link's fault.
+use Rattle.std.specs.Prelude.{◌≡◌, ◌≢◌, ◌≤◌, ◌<◌, ◌^◌, ◌-◌, ◌+◌, ◌==◌, ◌⊎◌, ℕ, Bool, true, false, List, length, slice_index_or, Some, None}
 use Rattle.std.specs.List.{list_any, AllByRecursion as Each}
-use Rattle.rd_base.specs.History.{Row}
+use Rattle.rd_base.specs.History.{History, Row}
 use Rattle.rd_base.specs.Outside.{SinkTold, Rose}
-use Rattle.rd_base.specs.declared.values.Ending.TheVariants.{NoMemory}
+use Rattle.rd_base.specs.Sources.{SourceTold}
+use Rattle.rd_base.specs.declared.values.Ending.TheVariants.{LinkFault, NoMemory}
+use Rattle.rd_base.specs.declared.values.Link.{Link}
 use Rattle.rd_rules.specs.Exchange.{Rules}
+use Rattle.rd_rules.specs.Sent.{final}
+use Rattle.rd_rules.specs.Trouble.{fails}
+use Rattle.rd_gate.specs.declared.gate.View.{View}
 use Rattle.rd_turn.specs.declared.log.LogEntry.{LogEntry}
 use Rattle.rd_turn.specs.declared.log.Act.{Act}
 use Rattle.rd_turn.specs.declared.log.Act.TheVariants.{Took, Timer, Stop, WriteFail}
 use Rattle.rd_turn.specs.Sinks.{sink_at}
 use Rattle.rd_turn.specs.Turns.{Outside}
 use Rattle.rd_run.specs.Ran.{SessionRan}
+use Rattle.rd_run.specs.Links.{LinksDone}
+use Rattle.rd_run.specs.Whole.{RunsBy, may_stay, taken_in}
+use Rattle.rd_run.specs.declared.run.Run.{Run}
 use Rattle.rd_run.specs.declared.session.Left.{Left}
 
 abbrev pub is_stop : Act → Bool
@@ -59,3 +67,30 @@ abbrev pub WriteFailsHaveFaults : Type 0
 WriteFailsHaveFaults = (r : Rules) (before after : Outside) (entries : List LogEntry) (told : List Row) (result : Left) (olds news : List SinkTold)
     → SessionRan r before after entries told result olds news → (l : ℕ) → has_write_fail l entries ≡ true
     → RoseToLast (sink_at olds l).faults (sink_at news l).faults
+
+-- ---- a link's fault
+
+-- a history ends as a link's fault only where a read or a write of that link failed
+abbrev pub OnlyFaults : Type 0
+OnlyFaults = (r : Rules) (h : History) (l : Link) → final r h ≡ Some (LinkFault l)
+    → (l.0 < r.limits.copies + 1) × (list_any (λ e. fails l.0 e.what) h ≡ true)
+
+abbrev pub no_source : SourceTold
+no_source = record { mark = record { first = 0; second = 0 }; faults = 0; given = None }
+
+-- the source of a link
+abbrev pub source_at : List SourceTold → ℕ → SourceTold
+source_at sources l = slice_index_or sources l no_source
+
+-- the count of faults of a link's source rose, or that of its sink
+abbrev pub LinkFailed : ℕ → List SourceTold → List SourceTold → List SinkTold → List SinkTold → Type 0
+LinkFailed l sources sources' sinks sinks' =
+    Rose (source_at sources l).faults (source_at sources' l).faults ⊎ RoseToLast (sink_at sinks l).faults (sink_at sinks' l).faults
+
+-- a run that is promised so, over a source and a sink for each link, ends as a link's fault only where that link failed
+abbrev pub LinkFaultsHaveCauses : Type 0 → Type 0 → Type 0
+LinkFaultsHaveCauses S R = (r : Rules) (before after : View → Outside) (refusals refusals' : ℕ) (run : Run S R)
+    (sources sources' : List SourceTold) (sinks sinks' : List SinkTold)
+    → ((v : View) → (after v).gate ≡ v) → length sources ≡ r.limits.copies + 1
+    → RunsBy r before after refusals refusals' run sinks sinks' → LinksDone (may_stay run) (taken_in run) 0 sources sources'
+    → (l : Link) → run.report.ending ≡ LinkFault l → LinkFailed l.0 sources sources' sinks sinks'
