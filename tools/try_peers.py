@@ -1,7 +1,7 @@
 #!/usr/bin/env python3
 """Tries `rddr run` between real clients and real servers on 127.0.0.1, and compares with what comes without it.
 
-- `http`: curl, and wrk with 32 connections and a 33rd, before three nginx.
+- `http`: curl, and wrk with 31 connections, and then a 33rd client, before three nginx.
 - `browser`: headless Chromium fetches a form from the three nginx and posts it.
 - `forms`: curl with a cookie jar, and Chromium, fetch a form over one connection and post it over another, before three
   nginx that close each connection, each before an application that takes its own tokens and cookies alone.
@@ -15,7 +15,8 @@
   database.
 
 Words choose parts; without any all are tried. What isn't installed (Debian's nginx-light, wrk, chromium, postgresql,
-python3-psycopg2) is named and left out.
+python3-psycopg2) is named and left out. `--binary FILE` serves a program that is built already, as the package does.
+The last line says how much went as it should, and how much didn't.
 """
 
 import argparse
@@ -41,105 +42,12 @@ import urllib.parse
 
 import record_http
 import record_postgres
-from recording import HOST, ROOT, free_port, wait_for_port
+from peers import Proxy, Results, command_of, is_here, run
+from recording import COPIES, HOST, ROOT, free_port, wait_for_port
 
 PARTS = ("http", "browser", "forms", "postgres", "calls", "trouble", "notes")
-COPIES = 3
 SESSIONS = 32
 MEGA_LINES = 65_536  # of 16 bytes each
-
-
-class Proxy:
-    """A running `rddr run`, before these instances or behind these callers."""
-
-    def __init__(self, program, folder, dialect, instances, backend=None, records=None, **limits):
-        self.port = free_port()
-        self.operator = free_port() if records else None
-        self.callers = [free_port() for _ in range(COPIES)] if backend else []
-        lines = ["version = 2", f"copies = {COPIES}", f'incoming = "{dialect}"', f'outgoing = "{dialect}"']
-        lines += [f"{key} = {value}" for key, value in limits.items()]
-        lines += ["[ports]", f'listen = "{HOST}:{self.port}"', f"instances = {addresses(instances)}"]
-        if backend:
-            lines += [f"callers = {addresses(self.callers)}", f'backend = "{HOST}:{backend}"']
-        if records:
-            lines += [f'operator = "{HOST}:{self.operator}"', f'records = "{records}"']
-        self.settings = os.path.join(folder, f"{self.port}.toml")
-        with open(self.settings, "w", encoding="ascii") as file:
-            file.write("\n".join(lines) + "\n")
-        self.process = subprocess.Popen([program, "run", self.settings], stdin=subprocess.PIPE)
-        for _ in range(20):
-            if wait_for_port(self.port):
-                break
-        else:
-            sys.exit("rddr did not serve")
-        self.idle = None if records else self.settled()
-
-    def served(self):
-        """The process that serves, and not the shell that started it."""
-        shell = os.readlink(f"/proc/{self.process.pid}/exe")
-        with open(f"/proc/{self.process.pid}/task/{self.process.pid}/children", encoding="ascii") as file:
-            children = file.read().split()
-        return next((int(one) for one in children if os.readlink(f"/proc/{one}/exe") != shell), self.process.pid)
-
-    def counts(self):
-        """How many threads and descriptors it has."""
-        pid = self.served()
-        return len(os.listdir(f"/proc/{pid}/task")), len(os.listdir(f"/proc/{pid}/fd"))
-
-    def settled(self, due=None):
-        """These counts, once they are those that are due, or stay the same."""
-        seen = self.counts()
-        for _ in range(80):
-            time.sleep(0.5)
-            before, seen = seen, self.counts()
-            if seen == due or (due is None and seen == before):
-                break
-        return seen
-
-    def processor_seconds(self):
-        with open(f"/proc/{self.served()}/stat", encoding="ascii") as file:
-            fields = file.read().rsplit(")", 1)[1].split()
-        return (int(fields[11]) + int(fields[12])) / os.sysconf("SC_CLK_TCK")
-
-    def stop(self, results):
-        """Stops it as an operator does."""
-        began = time.monotonic()
-        self.process.send_signal(signal.SIGTERM)
-        status = self.process.wait(30)
-        seconds = time.monotonic() - began
-        results.say("a stop", status == 0 and seconds < 5, f"status {status} after {seconds:.1f} s")
-
-
-def addresses(ports):
-    return "[" + ", ".join(f'"{HOST}:{port}"' for port in ports) + "]"
-
-
-class Results:
-    """What was seen, a line each; `wrong` counts what went otherwise."""
-
-    def __init__(self):
-        self.wrong = 0
-
-    def say(self, name, holds, text=""):
-        self.wrong += not holds
-        print(f"{'ok   ' if holds else 'WRONG'} {name}{': ' if text else ''}{text}", flush=True)
-
-    def same(self, name, through, without):
-        shown = "" if through == without else f"{through[-300:]!r} for {without[-300:]!r}"
-        self.say(name, through == without, shown)
-
-
-def run(words, **more):
-    """A command's output and status."""
-    done = subprocess.run(words, stdout=subprocess.PIPE, stderr=subprocess.STDOUT, timeout=90, check=False, **more)
-    return done.stdout + b"\nstatus %d" % done.returncode
-
-
-def is_here(*programs):
-    missing = [name for name in programs if not shutil.which(name)]
-    if missing:
-        print(f"left out: {', '.join(missing)} not installed", flush=True)
-    return not missing
 
 
 # ---- HTTP
@@ -154,11 +62,14 @@ class WebServers:
             file.write("".join(f"{n:015}\n" for n in range(MEGA_LINES)))
         self.application = record_http.start_application(self.site)
         self.servers = []
+        program, text, words, user = record_http.SERVERS["nginx"]
+        lasting = text.replace("absolute_redirect off;", "absolute_redirect off; keepalive_requests 1000000;")
+        record_http.SERVERS["lasting"] = (program, lasting, words, user)
         for number in range(COPIES):
             own = os.path.join(folder, f"nginx-{number}")
             os.mkdir(own)
             os.chmod(own, 0o777)
-            self.servers.append(record_http.start_server("nginx", own, self.site, self.application.server_port))
+            self.servers.append(record_http.start_server("lasting", own, self.site, self.application.server_port))
 
     def ports(self):
         return [port for _, port in self.servers]
@@ -192,13 +103,13 @@ def try_curl(results, proxy, servers, folder):
 
 def try_wrk(results, proxy):
     results.same("sessions are over", proxy.settled(proxy.idle), proxy.idle)
-    # One second alone: nginx closes a connection at its 1,000th request, and one that comes anew is turned away while
-    # the session before it still ends.
-    text = run(["wrk", "-t2", f"-c{SESSIONS}", "-d1s", "--timeout", "20s", f"http://{HOST}:{proxy.port}/index.html"])
+    # One connection less than there may be sessions: wrk tries one first, whose session may still end as they come.
+    connections = SESSIONS - 1
+    text = run(["wrk", "-t2", f"-c{connections}", "-d2s", "--timeout", "20s", f"http://{HOST}:{proxy.port}/index.html"])
     lines = text.decode().splitlines()
     faults = [line.strip() for line in lines if "Non-2xx" in line or "Socket errors" in line]
     rate = [line.strip() for line in lines if "Requests/sec" in line]
-    results.say(f"wrk, {SESSIONS} connections", rate and not faults, "; ".join(rate + faults) or text.decode())
+    results.say(f"wrk, {connections} connections", rate and not faults, "; ".join(rate + faults) or text.decode())
     results.same("sessions are over", proxy.settled(proxy.idle), proxy.idle)
     idle = [socket.create_connection((HOST, proxy.port)) for _ in range(SESSIONS)]
     time.sleep(1)
@@ -767,7 +678,9 @@ def try_notes(results, program, folder):
 def main():
     parser = argparse.ArgumentParser(description=__doc__.splitlines()[0])
     parser.add_argument("parts", nargs="*", metavar="PART", help=f"of {', '.join(PARTS)}")
-    parser.add_argument("--program", default=os.path.join(ROOT, "rddr"), help="what is run as `PROGRAM run SETTINGS`")
+    program = parser.add_mutually_exclusive_group()
+    program.add_argument("--program", default=os.path.join(ROOT, "rddr"), help="what is run as `PROGRAM run SETTINGS`")
+    program.add_argument("--binary", metavar="FILE", help="the built program, which tools/serving.sh starts")
     parser.add_argument("--instance", type=int, metavar="PORT", help="be one of the servers of `trouble`")
     given = parser.parse_args()
     if given.instance:
@@ -780,10 +693,11 @@ def main():
         folder = tempfile.mkdtemp(prefix="rddr-peers-")
         os.chmod(folder, 0o755)
         try:
-            parts[name](results, given.program, folder)
+            parts[name](results, command_of(given.binary, folder) if given.binary else given.program, folder)
         finally:
             shutil.rmtree(folder, ignore_errors=True)
         print(f"{name}: {time.monotonic() - began:.0f} s", flush=True)
+    print(f"peers: {results.right} passed, {results.wrong} failed", flush=True)
     return 1 if results.wrong else 0
 
 
