@@ -54,7 +54,9 @@ impl MemFiles {
 
     /// Adds a file behind the others. Of two files of one name the first counts.
     pub fn add(&mut self, name: &str, bytes: &[u8]) -> Result<(), NoMemory>
-        ensures ok { OnOk result (self.new.files ≡ self.old.files ++ record { name = name.now; bytes = bytes.now } ∷ []) }
+        ensures ok { OnOk result
+            (self.new.files ≡ self.old.files
+            ++ record { name = name.now; bytes = bytes.now } ∷ []) }
         ensures faults { self.new.faults ≡ self.old.faults }
         ensures calls { self.new.calls ≡ self.old.calls }
         ensures failing { self.new.failing ≡ self.old.failing }
@@ -79,7 +81,8 @@ impl Files for MemFiles {
     ghost tells = { files_tell };
 
     fn read_all(&mut self, alloc: Global, name: &str, most: usize) -> Result<Bytes, FileFail>
-        ensures ok { IfOk result (λ b. (all : List NamedFile) → (files_tell self.old).files ≡ Some all
+        ensures ok { IfOk result
+            (λ b. (all : List NamedFile) → (files_tell self.old).files ≡ Some all
             → file_of name.now all ≡ Some b) }
         ensures fits { IfOk result (λ b. length b ≤ most) }
         ensures too_long { result ≡ Err FileFail.TooLong → (all : List NamedFile)
@@ -88,7 +91,8 @@ impl Files for MemFiles {
         ensures failed { result ≡ Err FileFail.Failed
             → Rose (files_tell self.old).faults (files_tell self.new).faults }
         ensures read { StaysRead (files_tell self.old) (files_tell self.new) }
-        ensures listed { is_listed self.old.calls self.old.failing ≡ true → result ≡ Err FileFail.Failed }
+        ensures listed { is_listed self.old.calls self.old.failing ≡ true
+            → result ≡ Err FileFail.Failed }
         ensures calls { self.new.calls ≡ counted self.old.calls }
         ensures failing { self.new.failing ≡ self.old.failing }
     {

@@ -63,7 +63,12 @@ impl MemSource {
         failing: Vec<u64>,
     ) -> Result<MemSource, NoMemory>
         requires { All IsPiece pieces.items }
-        ensures { IfOk result (λ s. s ≡ record { mark = record { first = first; second = second }; faults = 0; given = []; left = pieces.items }) }
+        ensures { IfOk result (λ s. s ≡ record {
+          mark = record { first = first; second = second };
+          faults = 0;
+          given = [];
+          left = pieces.items;
+        }) }
     {
         let room = pieces.len() + failing.len();
         match Vec::with_capacity(alloc, room) {
@@ -93,7 +98,8 @@ impl MemSource {
 /// Logs an answer other than End.
 fn log_answer(log: &mut Vec<Logged>, ends: &mut u64, answer: Answer)
     requires { vec_len log.old < vec_capacity log.old }
-    ensures log { log.new.items ≡ log.old.items ++ record { ends = ends.old; answer = answer } ∷ [] }
+    ensures log { log.new.items
+        ≡ log.old.items ++ record { ends = ends.old; answer = answer } ∷ [] }
     ensures len { vec_len log.new ≡ vec_len log.old + 1 }
     ensures room { vec_capacity log.new ≡ vec_capacity log.old }
     ensures ends { ends.new ≡ 0 }

@@ -65,7 +65,8 @@ impl Stopper for MemStopper {
     }
 
     fn join_in(&mut self, other: MemStopper)
-        ensures yeses { TakesYeses (stopper_tells other) (stopper_tells self.old) (stopper_tells self.new) }
+        ensures yeses { TakesYeses (stopper_tells other) (stopper_tells self.old)
+            (stopper_tells self.new) }
     {
         self.yeses = self.yeses.saturating_add(other.yeses);
     }

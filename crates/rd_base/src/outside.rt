@@ -50,7 +50,8 @@ pub trait Files: Drop {
 
     /// All bytes of a file that has no more than these.
     fn read_all(&mut self, alloc: Global, name: &str, most: usize) -> Result<Bytes, FileFail>
-        ensures ok { IfOk result (λ b. (all : List NamedFile) → (tells self.old).files ≡ Some all
+        ensures ok { IfOk result
+            (λ b. (all : List NamedFile) → (tells self.old).files ≡ Some all
             → file_of name.now all ≡ Some b) }
         ensures fits { IfOk result (λ b. length b ≤ most) }
         ensures too_long { result ≡ Err FileFail.TooLong → (all : List NamedFile)

@@ -39,7 +39,8 @@ impl Sends {
     pub fn push(&mut self, link: Link, bytes: Bytes) -> Result<(), NoMemory>
         requires some { 0 < length bytes }
         requires rising { All (λ (s : Send). s.link.0 < link.0) self.old }
-        ensures ok { OnOk result (self.new ≡ self.old ++ record { link = link; bytes = bytes } ∷ []) }
+        ensures ok { OnOk result
+            (self.new ≡ self.old ++ record { link = link; bytes = bytes } ∷ []) }
         ensures err { OnErr result (self.new ≡ self.old) }
     {
         match self.kept.push(Send { link, bytes }) {

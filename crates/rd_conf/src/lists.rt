@@ -35,7 +35,9 @@ fn names_under(alloc: Global, value: &Value, key: Key) -> Result<Names, Settings
 
 /// The names of values that give no token. None of them is a firm name.
 pub fn free_names_or_none(alloc: Global, table: &Table, firm: &Names) -> Result<Names, SettingsFail>
-    ensures { IsAnswer result (texts_if Key.FreeNames (are_free_names firm.now) (value_at Key.FreeNames (table_view table.now))) }
+    ensures { IsAnswer result
+        (texts_if Key.FreeNames (are_free_names firm.now)
+        (value_at Key.FreeNames (table_view table.now))) }
 {
     match value_at(table, Key::FreeNames) {
         None => Ok(Names::new(alloc)),
@@ -44,7 +46,8 @@ pub fn free_names_or_none(alloc: Global, table: &Table, firm: &Names) -> Result<
 }
 
 fn free_names_under(alloc: Global, value: &Value, firm: &Names) -> Result<Names, SettingsFail>
-    ensures { IsAnswer result (texts_if Key.FreeNames (are_free_names firm.now) (Some (view value.now))) }
+    ensures { IsAnswer result
+        (texts_if Key.FreeNames (are_free_names firm.now) (Some (view value.now))) }
 {
     let items = texts_in(value, Key::FreeNames)?;
     if !are_free_names(firm, items) {
@@ -55,7 +58,9 @@ fn free_names_under(alloc: Global, value: &Value, firm: &Names) -> Result<Names,
 
 /// Where the instances are, one for each copy; none where the key is absent.
 pub fn instances_or_none(alloc: Global, table: &Table, copies: u8) -> Result<Words, SettingsFail>
-    ensures row { IsAnswer result (texts_if Key.PortsInstances (are_addresses copies) (value_at Key.PortsInstances (table_view table.now))) }
+    ensures row { IsAnswer result
+        (texts_if Key.PortsInstances (are_addresses copies)
+        (value_at Key.PortsInstances (table_view table.now))) }
     ensures count { IfOk result (λ words. is_none_or_each copies words ≡ true) }
 {
     match value_at(table, Key::PortsInstances) {
@@ -65,7 +70,8 @@ pub fn instances_or_none(alloc: Global, table: &Table, copies: u8) -> Result<Wor
 }
 
 fn instances_under(alloc: Global, value: &Value, copies: u8) -> Result<Words, SettingsFail>
-    ensures row { IsAnswer result (texts_if Key.PortsInstances (are_addresses copies) (Some (view value.now))) }
+    ensures row { IsAnswer result
+        (texts_if Key.PortsInstances (are_addresses copies) (Some (view value.now))) }
     ensures count { IfOk result (λ words. is_none_or_each copies words ≡ true) }
 {
     let items = texts_in(value, Key::PortsInstances)?;
@@ -77,7 +83,9 @@ fn instances_under(alloc: Global, value: &Value, copies: u8) -> Result<Words, Se
 
 /// Where the callers are listened for, one for each copy, or none.
 pub fn callers_or_none(alloc: Global, table: &Table, copies: u8) -> Result<Words, SettingsFail>
-    ensures row { IsAnswer result (texts_if Key.PortsCallers (are_addresses_or_none copies) (value_at Key.PortsCallers (table_view table.now))) }
+    ensures row { IsAnswer result
+        (texts_if Key.PortsCallers (are_addresses_or_none copies)
+        (value_at Key.PortsCallers (table_view table.now))) }
     ensures count { IfOk result (λ words. is_none_or_each copies words ≡ true) }
 {
     match value_at(table, Key::PortsCallers) {
@@ -87,7 +95,8 @@ pub fn callers_or_none(alloc: Global, table: &Table, copies: u8) -> Result<Words
 }
 
 fn callers_under(alloc: Global, value: &Value, copies: u8) -> Result<Words, SettingsFail>
-    ensures row { IsAnswer result (texts_if Key.PortsCallers (are_addresses_or_none copies) (Some (view value.now))) }
+    ensures row { IsAnswer result
+        (texts_if Key.PortsCallers (are_addresses_or_none copies) (Some (view value.now))) }
     ensures count { IfOk result (λ words. is_none_or_each copies words ≡ true) }
 {
     let items = texts_in(value, Key::PortsCallers)?;

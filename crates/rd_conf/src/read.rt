@@ -162,7 +162,8 @@ fn settings_in(alloc: Global, table: &Table) -> Result<Settings, SettingsFail>
 /// was found.
 pub fn read_settings(alloc: Global, text: &[u8]) -> Result<Settings, SettingsFail>
     ensures settings { IfOk result (λ settings. settings_of text.now ≡ Ok settings) }
-    ensures fault { IfErr result (λ fault. fault ≢ SettingsFail.NoMemory → settings_of text.now ≡ Err fault) }
+    ensures fault { IfErr result
+        (λ fault. fault ≢ SettingsFail.NoMemory → settings_of text.now ≡ Err fault) }
     ensures limits { IfOk result (λ settings. AreLimits settings.limits) }
     ensures ports { IfOk result (λ settings. ArePorts settings.limits.copies settings.ports) }
 {

@@ -26,7 +26,8 @@ pub fn integer_or(
 ) -> Result<u64, SettingsFail>
     requires least { least ≤ default }
     requires most { default ≤ most }
-    ensures row { result ≡ integer_or default key least most (value_at key (table_view table.now)) }
+    ensures row { result ≡ integer_or default key least most
+        (value_at key (table_view table.now)) }
     ensures least { IfOk result (λ n. least ≤ n) }
     ensures most { IfOk result (λ n. n ≤ most) }
 {

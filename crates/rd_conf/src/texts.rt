@@ -17,7 +17,9 @@ use toml::Value;
 /// The items of an array of texts.
 pub fn texts_in(value: &Value, key: Key) -> Result<&[Value], SettingsFail>
     ensures texts { IfOk result (λ items. are_texts (items_view items.now) ≡ true) }
-    ensures row { MatchResult result (λ items. texts_in key (view value.now) ≡ Ok (texts_of (items_view items.now))) (λ fault. texts_in key (view value.now) ≡ Err fault) }
+    ensures row { MatchResult result
+        (λ items. texts_in key (view value.now) ≡ Ok (texts_of (items_view items.now)))
+        (λ fault. texts_in key (view value.now) ≡ Err fault) }
 {
     let Some(items) = value.as_array() else {
         return Err(SettingsFail::WrongKind(key));
@@ -58,7 +60,8 @@ fn push_word(words: &mut Words, value: &Value) -> Result<(), NoMemory>
 
 /// The texts of the items as names.
 pub fn names_of(alloc: Global, items: &[Value]) -> Result<Names, NoMemory>
-    ensures { IfOk result (λ names. names ≡ map (map to_ascii_lowercase) (texts_of (items_view items.now))) }
+    ensures { IfOk result (λ names. names
+        ≡ map (map to_ascii_lowercase) (texts_of (items_view items.now))) }
 {
     let mut names = Names::new(alloc);
     for item in items {
@@ -69,7 +72,8 @@ pub fn names_of(alloc: Global, items: &[Value]) -> Result<Names, NoMemory>
 
 /// Appends the value's text in lower case, if it is one.
 fn push_name(names: &mut Names, value: &Value) -> Result<(), NoMemory>
-    ensures { OnOk result (names.new ≡ names.old ++ map (map to_ascii_lowercase) (text_or_none (view value.now))) }
+    ensures { OnOk result (names.new
+        ≡ names.old ++ map (map to_ascii_lowercase) (text_or_none (view value.now))) }
 {
     match value.as_str() {
         Some(text) => names.push(text.as_bytes()),
@@ -86,7 +90,8 @@ pub fn are_names(items: &[Value]) -> bool
 }
 
 fn hold_names(items: &[Value]) -> bool
-    ensures { result ≡ list_all (λ value. option_map_or is_name (as_str (view value)) true) items.now }
+    ensures { result ≡ list_all
+        (λ value. option_map_or is_name (as_str (view value)) true) items.now }
 {
     items.iter().all(|item| holds_name(item))
 }
@@ -130,7 +135,8 @@ pub fn are_free_names(firm: &Names, items: &[Value]) -> bool
 }
 
 fn are_apart(firm: &Names, items: &[Value]) -> bool
-    ensures { result ≡ list_all (λ value. option_map_or (is_no_name_of firm.now) (as_str (view value)) true) items.now }
+    ensures { result ≡ list_all
+        (λ value. option_map_or (is_no_name_of firm.now) (as_str (view value)) true) items.now }
 {
     items.iter().all(|item| is_apart(firm, item))
 }
@@ -153,7 +159,8 @@ pub fn are_addresses(copies: u8, items: &[Value]) -> bool
 }
 
 fn hold_addresses(items: &[Value]) -> bool
-    ensures { result ≡ list_all (λ value. option_map_or is_address (as_str (view value)) true) items.now }
+    ensures { result ≡ list_all
+        (λ value. option_map_or is_address (as_str (view value)) true) items.now }
 {
     items.iter().all(|item| holds_address(item))
 }

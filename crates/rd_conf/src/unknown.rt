@@ -82,14 +82,16 @@ fn unknown_top_key(table: &Table) -> Option<&str>
 }
 
 fn first_not_in_top(table: &Table, second: bool) -> Option<&String>
-    ensures first { option_map (λ key. key.now) result ≡ find (λ key. not (is_top_key second (string_bytes key))) (keys_of table.now.entries) }
+    ensures first { option_map (λ key. key.now) result
+        ≡ find (λ key. not (is_top_key second (string_bytes key))) (keys_of table.now.entries) }
     ensures ordered { IsStrictlySortedBy string_cmp (keys_of table.now.entries) }
 {
     table.keys().find(|key| !is_top_key(second, key.as_str()))
 }
 
 fn unknown_port_key(table: &Table) -> Option<&str>
-    ensures { option_map (λ key. key.now) result ≡ unknown_port_key (value_at Key.Ports (table_view table.now)) }
+    ensures { option_map (λ key. key.now) result
+        ≡ unknown_port_key (value_at Key.Ports (table_view table.now)) }
 {
     let ports = value_at(table, Key::Ports)?.as_table()?;
     match first_not_in_ports(ports) {
@@ -99,7 +101,8 @@ fn unknown_port_key(table: &Table) -> Option<&str>
 }
 
 fn first_not_in_ports(ports: &Table) -> Option<&String>
-    ensures first { option_map (λ key. key.now) result ≡ find (λ key. not (is_port_key (string_bytes key))) (keys_of ports.now.entries) }
+    ensures first { option_map (λ key. key.now) result
+        ≡ find (λ key. not (is_port_key (string_bytes key))) (keys_of ports.now.entries) }
     ensures ordered { IsStrictlySortedBy string_cmp (keys_of ports.now.entries) }
 {
     ports.keys().find(|key| !is_port_key(key.as_str()))

@@ -147,7 +147,8 @@ impl<D: Dialect> Session<D> {
     /// ending.
     pub fn due(&self) -> Option<(u64, Which)>
         ensures over { is_none result ≡ is_some self.now.ending }
-        ensures due { (h : List Entry) → IsAt (rules_of (D.grammar self.now.dialect) self.now.setup)
+        ensures due { (h : List Entry)
+            → IsAt (rules_of (D.grammar self.now.dialect) self.now.setup)
             self.now h
             → IfSome result (λ d. (d.0 ≡ due_moment (rules_of (D.grammar self.now.dialect) self.now.setup) h) × (d.1 ≡ (wait (rules_of (D.grammar self.now.dialect) self.now.setup) h).which)) }
     {

@@ -84,7 +84,8 @@ fn is_long(most: u32, one: &Open) -> bool
 
 /// The size limit of links on which nothing is due.
 fn long_among(most: u32, opens: &[Open]) -> Option<Ending>
-    ensures { result ≡ rule.least_open Ending.TooBig (λ o. nat_lt most (length o.bytes)) opens.now }
+    ensures { result ≡ rule.least_open Ending.TooBig
+        (λ o. nat_lt most (length o.bytes)) opens.now }
 {
     for one in opens {
         if is_long(most, one) {
@@ -253,7 +254,8 @@ fn left_among(opens: &[Open]) -> Option<Ending>
 
 /// A link that ended inside a unit, of those that ask.
 fn cut_asker(stage: &Stage, looks: &[Look]) -> Option<Ending>
-    ensures { result ≡ (if wait.some_open stage.now.left.asking.opens.items then least_look Ending.Broken looks_cut looks.now else None) }
+    ensures { result ≡ (if wait.some_open stage.now.left.asking.opens.items
+        then least_look Ending.Broken looks_cut looks.now else None) }
 {
     if some_open(stage.left.asking.as_slice()) {
         cut_among(looks)

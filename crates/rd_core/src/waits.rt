@@ -63,7 +63,8 @@ pub(crate) fn awaited(side: Side, stage: &Stage) -> WaitedFor
 
 /// Whether a session waits for the same as before.
 fn waits_on(side: Side, before: WaitedFor, now: &Stage) -> bool
-    ensures { result ≡ rule.same_wait (awaited_wait before) (wait_at side (seen_stage now.now [])) }
+    ensures { result ≡ rule.same_wait (awaited_wait before)
+        (wait_at side (seen_stage now.now [])) }
 {
     is_same_which(before.which, which_at(side, now)) && before.count == now.count
 }

@@ -135,7 +135,8 @@ fn words_in<D: Dialect>(
         reading.now.done.items }
     requires out { HasAsked (D.grammar dialect.now) reading.now.out }
     requires rows { rows_are (rules_of (D.grammar dialect.now) setup.now) reading.now.done.items }
-    ensures { IfOk result (λ words. words ≡ words_read (rules_of (D.grammar dialect.now) setup.now)
+    ensures { IfOk result (λ words. words
+        ≡ words_read (rules_of (D.grammar dialect.now) setup.now)
         own.now was_out (seen_reading reading.now)) }
 {
     let mut words = Words::new(alloc);
@@ -167,7 +168,8 @@ pub(crate) fn words_next<D: Dialect>(
 ) -> Result<Words, NoMemory>
     requires limits { AreLimits setup.now.limits }
     requires count { stage.now.count ≤ setup.now.limits.exchanges_max }
-    ensures { IfOk result (λ words. words ≡ words_read (rules_of (D.grammar dialect.now) setup.now)
+    ensures { IfOk result (λ words. words
+        ≡ words_read (rules_of (D.grammar dialect.now) setup.now)
         own.now (is_some stage.now.out)
         (rule.read (D.grammar dialect.now) setup.now.limits.mask (setup.now.limits.exchanges_max - stage.now.count) (seen_front front.now))) }
 {

@@ -53,7 +53,8 @@ pub trait Dialect: Drop {
         whole: bool,
         out: &mut Bytes,
     ) -> Result<(), NoMemory>
-        ensures ok { OnOk result (out.new ≡ out.old ++ (grammar self.now).flat part phase note bytes.now whole) }
+        ensures ok { OnOk result
+            (out.new ≡ out.old ++ (grammar self.now).flat part phase note bytes.now whole) }
         ensures err { OnErr result (out.new ≡ out.old) };
 
     fn first_cursor(&self) -> Cursor
@@ -86,7 +87,8 @@ pub trait Dialect: Drop {
         unit: &[u8],
     ) -> Result<Bytes, NoMemory>
         requires { IsRequest (grammar self.now) phase unit.now }
-        ensures { IfOk result (λ b. b ≡ (grammar self.now).to_copy phase note copy own.now told.now unit.now) };
+        ensures { IfOk result (λ b. b
+            ≡ (grammar self.now).to_copy phase note copy own.now told.now unit.now) };
 
     /// The words of a whole request that are looked up, in order of place.
     fn asked_words(

@@ -11,7 +11,8 @@ pub fn scan_due<D: Dialect>(dialect: &D, due: Due, bytes: &[u8], ended: bool) ->
     ensures scan { result ≡ scan_due (D.grammar dialect.now) due bytes.now ended }
     ensures within { (len : ℕ) → result ≡ Whole len → len ≤ length bytes.now }
     ensures some_bytes { (len : ℕ) → result ≡ Whole len → 0 < len }
-    ensures unit { (len : ℕ) → result ≡ Whole len → IsDue (D.grammar dialect.now) due (take len bytes.now) true }
+    ensures unit { (len : ℕ) → result ≡ Whole len
+        → IsDue (D.grammar dialect.now) due (take len bytes.now) true }
     ensures part { result ≡ More → IsDue (D.grammar dialect.now) due bytes.now false }
 {
     scan_by_part(dialect, due, bytes, ended)

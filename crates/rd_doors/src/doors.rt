@@ -33,13 +33,18 @@ pub trait Doors<L: Drop + Send + 'static>: Drop {
     /// What comes next. It waits a while, and then answers Quiet.
     fn next_visit(&mut self, alloc: Global) -> Visit<Self::Give, Self::Take>
         requires { is_some (tells self.old).copies ≡ true }
-        ensures may { MayCome (tells self.old) (given_entry Self.Give.tells Self.Take.tells result) }
-        ensures told { (tells self.new).told ≡ entries_with (given_entry Self.Give.tells Self.Take.tells result)
+        ensures may { MayCome (tells self.old)
+            (given_entry Self.Give.tells Self.Take.tells result) }
+        ensures told { (tells self.new).told
+            ≡ entries_with (given_entry Self.Give.tells Self.Take.tells result)
             (tells self.old).told }
-        ensures out { (tells self.new).out ≡ out_with {L = L} (given_entry Self.Give.tells Self.Take.tells result)
+        ensures out { (tells self.new).out
+            ≡ out_with {L = L} (given_entry Self.Give.tells Self.Take.tells result)
             (tells self.old).out }
-        ensures over { (tells self.new).is_over ≡ ((tells self.old).is_over || is_over_visit result) }
-        ensures failed { result ≡ Visit.Failed → Rose (tells self.old).faults (tells self.new).faults }
+        ensures over { (tells self.new).is_over
+            ≡ ((tells self.old).is_over || is_over_visit result) }
+        ensures failed { result ≡ Visit.Failed
+            → Rose (tells self.old).faults (tells self.new).faults }
         ensures faults { (tells self.old).faults ≤ (tells self.new).faults }
         ensures visits { (tells self.new).visits ≡ (tells self.old).visits
             + one_gave {L = L} (given_entry Self.Give.tells Self.Take.tells result) }
@@ -54,7 +59,8 @@ pub trait Doors<L: Drop + Send + 'static>: Drop {
         requires out { Holds number (tells self.old).out }
         requires links { AreLinksOf Self.Give.tells Self.Take.tells number
             run.sources.items sinks.items (tells self.old) }
-        ensures { TakesBack (CameBack (run_told Self.Give.tells Self.Take.tells number run sinks.items))
+        ensures { TakesBack (CameBack
+            (run_told Self.Give.tells Self.Take.tells number run sinks.items))
             (tells self.old) (tells self.new) };
 
     /// Takes back a visit that is out unused, where 33 are.

@@ -292,7 +292,8 @@ impl<R: Wait + Copy> Model for Passes<R> {
 impl<R: Wait + Copy> Passes<R> {
     /// `None` exactly where all are given.
     pub fn next(&mut self) -> Option<ReaderPass<R>>
-        ensures { MatchOption result ((self.old ≡ []) × (self.new ≡ [])) (λ x. self.old ≡ x ∷ self.new) }
+        ensures { MatchOption result ((self.old ≡ []) × (self.new ≡ []))
+            (λ x. self.old ≡ x ∷ self.new) }
     {
         self.left.pop_front()
     }
@@ -312,7 +313,9 @@ impl<R: Wait + Copy> OwnerPass<R> {
     fn reader(&mut self, link: u8) -> Result<ReaderPass<R>, NoMemory>
         requires { (self.old.knows.made ≡ link) }
         ensures gate { self.new.gate ≡ self.old.gate }
-        ensures made { IfOk result (λ p. (self.new.knows ≡ named self.old.knows) × (p ≡ known self.old.gate (reader link []))) }
+        ensures made { IfOk result
+            (λ p. (self.new.knows ≡ named self.old.knows)
+            × (p ≡ known self.old.gate (reader link []))) }
     {
         let OwnerPass {
             rt,
@@ -346,7 +349,8 @@ pub fn make_gate<R: Wait + Copy>(
     links: u8,
 ) -> Result<(OwnerPass<R>, Passes<R>), NoMemory>
     requires { (4 ≤ links) × (links ≤ 9) }
-    ensures { IfOk result (λ r. (r.0.knows ≡ owner links [] [] []) × (r.1 ≡ fresh r.0.gate links)) }
+    ensures { IfOk result (λ r. (r.0.knows ≡ owner links [] [] [])
+        × (r.1 ≡ fresh r.0.gate links)) }
 {
     let Ok((queue, pass)) = Queue::ruled(alloc, CAPACITY) else {
         return Err(NoMemory);

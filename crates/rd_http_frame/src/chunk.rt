@@ -115,7 +115,8 @@ fn line_end(bytes: &[u8]) -> Scan
 fn digits_len(bytes: &[u8]) -> usize
     ensures value { result ≡ prefix_len is_ascii_hexdigit bytes.now }
     ensures within { result ≤ length bytes.now }
-    ensures digits { (k : ℕ) → k < result → is_ascii_hexdigit (slice_index bytes.now k) ≡ true }
+    ensures digits { (k : ℕ) → k < result
+        → is_ascii_hexdigit (slice_index bytes.now k) ≡ true }
 {
     'bytes: for i in 0..bytes.len() {
         if !bytes[i].is_ascii_hexdigit() {
@@ -128,7 +129,8 @@ fn digits_len(bytes: &[u8]) -> usize
 /// The number that at most eight hexadecimal digits write.
 fn hex_value(digits: &[u8]) -> usize
     requires few { length digits.now ≤ 8 }
-    requires digits { (k : ℕ) → k < length digits.now → is_ascii_hexdigit (slice_index digits.now k) ≡ true }
+    requires digits { (k : ℕ) → k < length digits.now
+        → is_ascii_hexdigit (slice_index digits.now k) ≡ true }
     ensures value { result ≡ digits_value 16 digits.now }
     ensures small { result < 2 ^ 32 }
 {

@@ -49,7 +49,8 @@ pub(crate) fn framing_of(minor: u8, bytes: &[u8], headers: &[HeaderSpan]) -> Opt
 /// The values of the fields of this name.
 fn find_values(name: &[u8], bytes: &[u8], headers: &[HeaderSpan]) -> Found
     requires within { All (IsHeaderWithin (length bytes.now)) headers.now }
-    ensures { IsFound bytes.now (values_of name.now (map (header_bytes bytes.now) headers.now)) result }
+    ensures { IsFound bytes.now
+        (values_of name.now (map (header_bytes bytes.now) headers.now)) result }
 {
     let Some(place) = first_named(name, bytes, headers) else {
         return Found::Absent;

@@ -23,7 +23,9 @@ pub fn flat_into(
     whole: bool,
     out: &mut Bytes,
 ) -> Result<(), NoMemory>
-    ensures ok { OnOk result ((flat : List ℕ) × IsFlat part head_request bytes.now whole flat × (out.new ≡ out.old ++ flat)) }
+    ensures ok { OnOk result
+        ((flat : List ℕ) × IsFlat part head_request bytes.now whole flat
+        × (out.new ≡ out.old ++ flat)) }
     ensures err { OnErr result (out.new ≡ out.old) }
 
     // Bytes have one flat form; a part's begins the whole's; it has at most three times the bytes and four more.
@@ -60,7 +62,8 @@ fn push_flat(
 ) -> Result<(), NoMemory>
     requires ordered { head.from ≤ head.to }
     requires within { head.to ≤ length bytes.now }
-    ensures ok { OnOk result (out.new ≡ out.old ++ flat_behind head_request bytes.now whole (Ok head)) }
+    ensures ok { OnOk result
+        (out.new ≡ out.old ++ flat_behind head_request bytes.now whole (Ok head)) }
     ensures err { OnErr result (IsPrefixOf out.old out.new) }
 {
     let rule = rule_in(head_request, head.body);

@@ -38,8 +38,10 @@ impl Head {
     /// The head that these bytes begin with. None exactly where `scan_head` isn't `Whole`.
     pub fn read(part: Part, bytes: &[u8]) -> Option<Head>
         ensures is { IfSome result (λ head. IsHead part bytes.now head) }
-        ensures whole { IfSome result (λ head. (len : ℕ) × IsHeadScan part bytes.now (Whole len)) }
-        ensures none { result ≡ None → (len : ℕ) → IsHeadScan part bytes.now (Whole len) → ⊥ }
+        ensures whole { IfSome result
+            (λ head. (len : ℕ) × IsHeadScan part bytes.now (Whole len)) }
+        ensures none { result ≡ None → (len : ℕ) → IsHeadScan part bytes.now (Whole len)
+            → ⊥ }
     {
         let Scan::Whole(_) = scan_head(part, bytes) else {
             return None;
@@ -122,7 +124,8 @@ fn request_places(bytes: &[u8], spans: &RequestSpans, headers: &[HeaderSpan]) ->
     requires few { length headers.now ≤ 100 }
     requires within { IsRequestWithin bytes.now headers.now spans.now }
     requires head { IsRequestOf bytes.now headers.now spans.now }
-    ensures { (h : RequestHead) → IsRequestAt bytes.now headers.now spans.now h → result ≡ request_places h }
+    ensures { (h : RequestHead) → IsRequestAt bytes.now headers.now spans.now h
+        → result ≡ request_places h }
 {
     let fields = &headers[..spans.headers];
     let method = front_len(bytes);
@@ -149,7 +152,8 @@ fn reply_places(bytes: &[u8], spans: &ResponseSpans, headers: &[HeaderSpan]) -> 
     requires few { length headers.now ≤ 100 }
     requires within { IsResponseWithin bytes.now headers.now spans.now }
     requires head { IsResponseOf bytes.now headers.now spans.now }
-    ensures { (h : ResponseHead) → IsResponseAt bytes.now headers.now spans.now h → result ≡ reply_places h }
+    ensures { (h : ResponseHead) → IsResponseAt bytes.now headers.now spans.now h
+        → result ≡ reply_places h }
 {
     let fields = &headers[..spans.headers];
     let first = first_at(bytes, front_len(bytes), b'\n') + 1;

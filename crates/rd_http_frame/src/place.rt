@@ -39,7 +39,8 @@ pub(crate) fn field_spans(
     requires few { length headers.now ≤ 100 }
     requires within { All (IsHeaderWithin (length bytes.now)) headers.now }
     requires lines { (fields : List Field) × AreLinesAt bytes.now at headers.now fields }
-    ensures { (fields : List Field) → AreLinesAt bytes.now at headers.now fields → result.items ≡ fields_at at fields }
+    ensures { (fields : List Field) → AreLinesAt bytes.now at headers.now fields
+        → result.items ≡ fields_at at fields }
 {
     let mut spans = ArrayVec::new();
     let mut line = at;
@@ -91,7 +92,8 @@ fn after_space(bytes: &[u8], at: usize) -> usize
 pub(crate) fn field_place(bytes: &[u8], at: usize) -> FieldPlace
     requires within { at ≤ length bytes.now }
     requires small { length bytes.now < 2 ^ 32 }
-    ensures { (f : Field) (rest : List ℕ) → FieldLine f (drop at bytes.now) rest → AtField at f result }
+    ensures { (f : Field) (rest : List ℕ) → FieldLine f (drop at bytes.now) rest
+        → AtField at f result }
 {
     let name_end = first_at(bytes, at, b':');
     let feed = first_at(bytes, name_end, b'\n');

@@ -139,8 +139,10 @@ fn request_answer(
     headers: &[HeaderSpan],
 ) -> Result<WholeHead, Scan>
     requires within { IsRequestWithin bytes.now headers.now spans.now }
-    ensures scan { (h : RequestHead) → IsRequestAt bytes.now headers.now spans.now h → head_scan result ≡ request_answer h }
-    ensures tells { (h : RequestHead) → IsRequestAt bytes.now headers.now spans.now h → AnswersRequest h result }
+    ensures scan { (h : RequestHead) → IsRequestAt bytes.now headers.now spans.now h
+        → head_scan result ≡ request_answer h }
+    ensures tells { (h : RequestHead) → IsRequestAt bytes.now headers.now spans.now h
+        → AnswersRequest h result }
 {
     let framing = framing_of(spans.version, bytes, &headers[..spans.headers]);
     if !is_visible(spans.path.of(bytes)) || framing.is_none() {
@@ -164,8 +166,10 @@ fn reply_answer(
     headers: &[HeaderSpan],
 ) -> Result<WholeHead, Scan>
     requires within { IsResponseWithin bytes.now headers.now spans.now }
-    ensures scan { (h : ResponseHead) → IsResponseAt bytes.now headers.now spans.now h → head_scan result ≡ reply_answer h }
-    ensures tells { (h : ResponseHead) → IsResponseAt bytes.now headers.now spans.now h → AnswersReply h result }
+    ensures scan { (h : ResponseHead) → IsResponseAt bytes.now headers.now spans.now h
+        → head_scan result ≡ reply_answer h }
+    ensures tells { (h : ResponseHead) → IsResponseAt bytes.now headers.now spans.now h
+        → AnswersReply h result }
 {
     let framing = framing_of(spans.version, bytes, &headers[..spans.headers]);
     if framing.is_none() {

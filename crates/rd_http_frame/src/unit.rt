@@ -41,7 +41,8 @@ pub fn scan_reply(head_request: bool, bytes: &[u8], ended: bool) -> Scan
     ensures scan { IsWholeReplyScan head_request ended bytes.now result }
 
     // The definition is met by this answer alone.
-    ensures only { (other : Scan) → IsWholeReplyScan head_request ended bytes.now other → other ≡ result }
+    ensures only { (other : Scan) → IsWholeReplyScan head_request ended bytes.now other
+        → other ≡ result }
 
     // It is whole exactly where the bytes begin with a reply, and has its length.
     ensures units { FindsUnits (IsReply head_request) (IsWholeReplyScan head_request) }
@@ -54,7 +55,8 @@ pub fn scan_reply(head_request: bool, bytes: &[u8], ended: bool) -> Scan
 
 /// The place where the final head of a whole reply begins, behind the interim ones.
 pub fn shown_from(reply: &[u8]) -> usize
-    requires { (head_request : Bool) × (ended : Bool) × IsWholeReplyScan head_request ended reply.now (Whole (length reply.now)) }
+    requires { (head_request : Bool) × (ended : Bool)
+        × IsWholeReplyScan head_request ended reply.now (Whole (length reply.now)) }
     ensures from { IsShownFrom reply.now result }
     ensures only { (other : ℕ) → IsShownFrom reply.now other → other ≡ result }
     ensures within { result < length reply.now }

@@ -80,7 +80,8 @@ impl<D: Dialect> InSession<D> {
     /// How the session has ended. None while it is live.
     pub fn ending(&self) -> Option<Ending>
         ensures seen { result ≡ self.now.ending }
-        ensures ending { (h : History) → IsAt (session_rules (D.grammar self.now.dialect) self.now)
+        ensures ending { (h : History)
+            → IsAt (session_rules (D.grammar self.now.dialect) self.now)
             self.now h → result ≡ final (session_rules (D.grammar self.now.dialect) self.now) h }
     {
         self.session.ending()

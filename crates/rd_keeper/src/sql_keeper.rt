@@ -224,7 +224,8 @@ fn refused_by(error: Error) -> Result<Store, NoMemory> {
 /// What a call answers that met this error; its count rises but where memory ran out.
 fn count_fault(faults: &mut u64, error: Error) -> KeepFail
     ensures failed { result ≡ KeepFail.Failed → Rose faults.old faults.new }
-    ensures memory { error ≢ Error.SqliteFailure ErrorCode.OutOfMemory → result ≡ KeepFail.Failed }
+    ensures memory { error ≢ Error.SqliteFailure ErrorCode.OutOfMemory
+        → result ≡ KeepFail.Failed }
     ensures faults { faults.old ≤ faults.new }
 {
     match error {

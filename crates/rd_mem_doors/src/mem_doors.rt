@@ -20,7 +20,8 @@ pub trait Fresh<S: Source, K: Sink>: Drop + Send + 'static {
 
     /// Whether these are the links of the operators' visit of this place, and weren't used.
     fn is_fresh_operator(place: u64, source: &S, sink: &K) -> bool
-        ensures { result ≡ true → IsFreshOperator place (S.tells source.now) (K.tells sink.now) };
+        ensures { result ≡ true
+            → IsFreshOperator place (S.tells source.now) (K.tells sink.now) };
 }
 
 /// What was told, with what came back.

@@ -22,7 +22,8 @@ pub fn make_ends<R: Clock + Copy>(
     wait_ms: u64,
 ) -> Result<Ends<TcpSource, TcpSink<R>>, NoMemory>
     ensures number { IfOk result (λ e. e.number ≡ number) }
-    ensures fresh { IfOk result (λ e. (copies : ℕ) → length e.sources.items ≡ suc copies → AreFresh copies
+    ensures fresh { IfOk result
+        (λ e. (copies : ℕ) → length e.sources.items ≡ suc copies → AreFresh copies
         (ends_told ⟦<TcpSource as Source>⟧.tells ⟦<TcpSink<R> as Sink>⟧.tells e)) }
 {
     let mut sources = Vec::with_capacity(alloc, MOST_LINKS as usize)?;

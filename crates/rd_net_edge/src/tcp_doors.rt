@@ -258,7 +258,8 @@ impl<
 
     fn give_back(&mut self, number: u64, run: Run<TcpSource, L>, sinks: Vec<TcpSink<R>>)
         requires out { Holds number self.old.out }
-        requires links { AreLinksOf ⟦<TcpSource as Source>⟧.tells ⟦<TcpSink<R> as Sink>⟧.tells number
+        requires links { AreLinksOf
+            ⟦<TcpSource as Source>⟧.tells ⟦<TcpSink<R> as Sink>⟧.tells number
             run.sources.items sinks.items self.old }
         ensures { TakesBack (CameBack (run_told ⟦<TcpSource as Source>⟧.tells
             ⟦<TcpSink<R> as Sink>⟧.tells number run sinks.items)) self.old self.new }

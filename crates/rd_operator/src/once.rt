@@ -123,7 +123,8 @@ fn write_no_memory<K: Sink>(sink: &mut K) -> OperatorEnd
 /// Writes the text of a reply of this status.
 fn write_text<K: Sink>(status: u16, text: &[u8], sink: &mut K) -> OperatorEnd
     requires { (K.tells sink.old).is_closed ≡ false }
-    ensures reply { (reply : ReplyView) → status ≡ reply.status → text.now ≡ reply_text reply
+    ensures reply { (reply : ReplyView) → status ≡ reply.status
+        → text.now ≡ reply_text reply
         → Written reply result (K.tells sink.old) (K.tells sink.new) }
     ensures sink { StaysOpen (K.tells sink.old) (K.tells sink.new) }
 {

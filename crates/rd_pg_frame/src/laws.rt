@@ -10,7 +10,8 @@ ghost use Rattle.rd_pg_frame.specs.Units.{Finds, IsRequestIn, IsReplyTo};
 pub fn framing_laws()
     // A scan is whole exactly where the bytes begin with a unit, and has its length.
     ensures request_units { (phase : Phase) → Finds (IsRequestIn phase) (scan_request phase) }
-    ensures reply_units { (side : Side) (note : Note) → Finds (IsReplyTo side note) (scan_reply side note) }
+    ensures reply_units { (side : Side) (note : Note)
+        → Finds (IsReplyTo side note) (scan_reply side note) }
 
     // What is told stays, whatever follows: no unit begins another, and hopeless bytes begin none.
     ensures request_framing { (phase : Phase) → IsFraming (scan_request phase) }

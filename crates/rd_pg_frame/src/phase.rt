@@ -55,7 +55,8 @@ fn ready_note(letter: u8) -> Note
 /// The phase after a whole reply to a request with this note: 0 is Open, 1 Password, 2 Ready, 3 Over.
 pub fn phase_after(note: Note, reply: &[u8]) -> Phase
     ensures phase { result ≡ phase_after note reply.now }
-    ensures reply { (side : Side) → scan_reply side note reply.now ≡ Whole (length reply.now) → IsReply side note result reply.now }
+    ensures reply { (side : Side) → scan_reply side note reply.now ≡ Whole (length reply.now)
+        → IsReply side note result reply.now }
 {
     match note.0 {
         1 | 2 => Phase(0),

@@ -30,7 +30,8 @@ pub fn piece_at(
     bytes: &[u8],
 ) -> Option<Piece>
     requires { length bytes.now < 2 ^ 32 }
-    ensures value { result ≡ piece_at rules.now stage (record { left = columns_left; names = names.now }) bytes.now }
+    ensures value { result ≡ piece_at rules.now stage
+        (record { left = columns_left; names = names.now }) bytes.now }
     ensures there { IfSome result (IsPiece bytes.now) }
 {
     match stage {
@@ -93,7 +94,8 @@ fn shown_parameter(rules: &NameRules, name: &[u8]) -> Shown
 
 /// How the value in the next column counts.
 fn shown_column(rules: &NameRules, columns_left: u32, names: &[u8]) -> Shown
-    ensures { result ≡ shown_column rules.now (record { left = columns_left; names = names.now }) }
+    ensures { result ≡ shown_column rules.now
+        (record { left = columns_left; names = names.now }) }
 {
     if columns_left == 0 {
         return Shown::AsSoft;
@@ -292,7 +294,8 @@ fn column_value_piece(
     names: &[u8],
     bytes: &[u8],
 ) -> Option<Piece>
-    ensures { result ≡ column_value_piece rules.now left (record { left = columns_left; names = names.now }) bytes.now }
+    ensures { result ≡ column_value_piece rules.now left
+        (record { left = columns_left; names = names.now }) bytes.now }
 {
     if left == 0 {
         return raw_piece(bytes);

@@ -175,7 +175,8 @@ fn moved(beside: Beside, names: &[u8]) -> Beside
     requires { length names.now < 2 ^ 32 }
     ensures from { result.from ≡ beside.from }
     ensures to { result.to ≡ beside.to }
-    ensures columns { (all : List ℕ) → slice_range all beside.at beside.to ≡ names.now → columns_now all result ≡ next_column (columns_now all beside) }
+    ensures columns { (all : List ℕ) → slice_range all beside.at beside.to ≡ names.now
+        → columns_now all result ≡ next_column (columns_now all beside) }
 {
     if beside.left == 0 {
         return beside;

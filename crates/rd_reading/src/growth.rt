@@ -92,7 +92,8 @@ pub fn grow_front(front: &mut Front, what: &What) -> Result<Extents, NoMemory>
     requires answering { All (HasRoom what.now) front.old.answering.opens.items }
     ensures ok { OnOk result (seen_front front.new
         ≡ grow_front_by what.now (seen_front front.old)) }
-    ensures asked { IfOk result (λ e. e.asking.items ≡ map extent_of front.old.asking.opens.items) }
+    ensures asked { IfOk result
+        (λ e. e.asking.items ≡ map extent_of front.old.asking.opens.items) }
     ensures answered { IfOk result (λ e. e.answering.items
         ≡ map extent_of front.old.answering.opens.items) }
     ensures err { OnErr result (seen_front front.new ≡ seen_front front.old) }

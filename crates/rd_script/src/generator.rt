@@ -51,7 +51,9 @@ fn push_exchange(
     requires most_exchange { exchange ≤ 9999 }
     requires before { before < 2 ^ 31 }
     requires drawn { drawn < 2 ^ 31 }
-    ensures ok { OnOk result (entries_in steps.new.items ≡ entries_in steps.old.items ++ one_exchange copies exchange before drawn) }
+    ensures ok { OnOk result
+        (entries_in steps.new.items
+        ≡ entries_in steps.old.items ++ one_exchange copies exchange before drawn) }
     ensures few { OnOk result (length steps.new.items ≤ length steps.old.items + 17) }
 {
     let request = request_line(alloc, exchange, before).map_err(|_| NoMemory)?;
@@ -107,7 +109,9 @@ fn push_reply(
     copy: u8,
 ) -> Result<(), NoMemory>
     requires { drawn < 2 ^ 31 }
-    ensures ok { OnOk result (entries_in steps.new.items ≡ entries_in steps.old.items ++ reply_pieces exchange drawn copy) }
+    ensures ok { OnOk result
+        (entries_in steps.new.items
+        ≡ entries_in steps.old.items ++ reply_pieces exchange drawn copy) }
     ensures few { OnOk result (length steps.new.items ≤ length steps.old.items + 2) }
 {
     let text = reply_line(alloc, exchange, drawn, copy).map_err(|_| NoMemory)?;
@@ -123,7 +127,8 @@ fn push_reply(
 
 /// Appends a piece of a link.
 fn push_piece(alloc: Global, steps: &mut Vec<Step>, link: u8, bytes: &[u8]) -> Result<(), NoMemory>
-    ensures ok { OnOk result (entries_in steps.new.items ≡ entries_in steps.old.items ++ piece link bytes.now ∷ []) }
+    ensures ok { OnOk result
+        (entries_in steps.new.items ≡ entries_in steps.old.items ++ piece link bytes.now ∷ []) }
     ensures one { OnOk result (length steps.new.items ≡ length steps.old.items + 1) }
 {
     push_step(
@@ -134,7 +139,8 @@ fn push_piece(alloc: Global, steps: &mut Vec<Step>, link: u8, bytes: &[u8]) -> R
 
 /// Appends what happened, at stamp 0.
 fn push_step(steps: &mut Vec<Step>, what: What) -> Result<(), NoMemory>
-    ensures ok { OnOk result (entries_in steps.new.items ≡ entries_in steps.old.items ++ at_zero what ∷ []) }
+    ensures ok { OnOk result
+        (entries_in steps.new.items ≡ entries_in steps.old.items ++ at_zero what ∷ []) }
     ensures one { OnOk result (length steps.new.items ≡ length steps.old.items + 1) }
 {
     match steps.push(Step {

@@ -102,7 +102,8 @@ pub fn read_script(alloc: Global, copies: u8, text: &[u8]) -> Result<Script, Scr
     requires least { 3 ≤ copies }
     requires most { copies ≤ 8 }
     ensures script { IfOk result (λ script. script_of copies text.now ≡ Ok script) }
-    ensures bad_line { (number : ℕ) → result ≡ Err (ScriptRefusal.BadLine number) → IsErrAnd (script_of copies text.now) (λ line. number ≡ min line (2 ^ 32 - 1)) }
+    ensures bad_line { (number : ℕ) → result ≡ Err (ScriptRefusal.BadLine number)
+        → IsErrAnd (script_of copies text.now) (λ line. number ≡ min line (2 ^ 32 - 1)) }
     ensures well_formed { IfOk result (λ script. is_well_formed copies script.entries ≡ true) }
 {
     let Some((first, rest)) = cut_at_byte(text, b'\n') else {
@@ -124,8 +125,12 @@ fn read_lines(
 ) -> Result<Vec<Step>, ScriptRefusal>
     requires least { 1 ≤ copies }
     requires most { copies ≤ 8 }
-    ensures steps { IfOk result (λ steps. read_lines copies side 2 nothing_read (parts_of text.now) ≡ Ok (entries_in steps.items)) }
-    ensures bad_line { (number : ℕ) → result ≡ Err (ScriptRefusal.BadLine number) → IsErrAnd (read_lines copies side 2 nothing_read (parts_of text.now)) (λ line. number ≡ min line (2 ^ 32 - 1)) }
+    ensures steps { IfOk result
+        (λ steps. read_lines copies side 2 nothing_read (parts_of text.now)
+        ≡ Ok (entries_in steps.items)) }
+    ensures bad_line { (number : ℕ) → result ≡ Err (ScriptRefusal.BadLine number)
+        → IsErrAnd (read_lines copies side 2 nothing_read (parts_of text.now))
+        (λ line. number ≡ min line (2 ^ 32 - 1)) }
 {
     let mut reading = Reading::new(alloc);
     let mut number: u64 = 2;
@@ -164,7 +169,8 @@ fn read_line(
 ) -> Result<bool, NoMemory>
     requires least { 1 ≤ copies }
     requires most { copies ≤ 8 }
-    ensures { IfOk result (λ good. with_line copies side reading.old (words_of line.now) ≡ (if good then Some reading.new else None)) }
+    ensures { IfOk result (λ good. with_line copies side reading.old (words_of line.now)
+        ≡ (if good then Some reading.new else None)) }
 {
     if is_told(line) {
         let Some(row) = read_told(alloc, copies, side, line)? else {

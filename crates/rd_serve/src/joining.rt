@@ -49,7 +49,8 @@ pub fn hand_back<
     requires out { Holds number (E.tells doors.old).out }
     requires fresh { AreFresh first.now.value.setup.limits.copies
         (ends_told E.Give.tells E.Take.tells ends.value) }
-    requires given { (told : List (Entry (SessionLeft R))) → (E.tells doors.old).told ≡ Some told
+    requires given { (told : List (Entry (SessionLeft R)))
+        → (E.tells doors.old).told ≡ Some told
         → Has (Gave side (ends_told E.Give.tells E.Take.tells ends.value)) told }
     requires ran { Ran (CameTo E.Give) first.now.value.setup side
         (ends_told E.Give.tells E.Take.tells ends.value)
@@ -126,7 +127,8 @@ pub fn give_back<
     requires out { Holds number (E.tells doors.old).out }
     requires fresh { AreFresh first.now.value.setup.limits.copies
         (ends_told E.Give.tells E.Take.tells ends.value) }
-    requires given { (told : List (Entry (SessionLeft R))) → (E.tells doors.old).told ≡ Some told
+    requires given { (told : List (Entry (SessionLeft R)))
+        → (E.tells doors.old).told ≡ Some told
         → Has (Gave side (ends_told E.Give.tells E.Take.tells ends.value)) told }
     requires kept { Keeps E.Give.tells E.Take.tells
         first.now.value.setup side ends.value served }

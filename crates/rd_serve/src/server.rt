@@ -89,7 +89,8 @@ fn serve_here<
     requires out { Holds ends.number (E.tells doors.old).out }
     requires fresh { AreFresh first.now.value.setup.limits.copies
         (ends_told E.Give.tells E.Take.tells ends) }
-    requires given { (told : List (Entry (SessionLeft R))) → (E.tells doors.old).told ≡ Some told
+    requires given { (told : List (Entry (SessionLeft R)))
+        → (E.tells doors.old).told ≡ Some told
         → Has (Gave side (ends_told E.Give.tells E.Take.tells ends)) told }
     requires live { IfSome begun.id (λ id. Holds id desk.old.ids) }
     requires keepable { IsKeepable begun }
@@ -141,7 +142,8 @@ fn admit<
         (E.tells doors.old) (Some ends.number) sessions.old.items }
     requires fresh { AreFresh first.now.value.setup.limits.copies
         (ends_told E.Give.tells E.Take.tells ends) }
-    requires given { (told : List (Entry (SessionLeft R))) → (E.tells doors.old).told ≡ Some told
+    requires given { (told : List (Entry (SessionLeft R)))
+        → (E.tells doors.old).told ≡ Some told
         → Has (Gave side (ends_told E.Give.tells E.Take.tells ends)) told }
     requires count { vec_len sessions.old + vec_len flags.old ≡ 31 }
     requires sessions_room { 32 ≤ vec_capacity sessions.old }
@@ -216,7 +218,8 @@ fn take_in<
         (E.tells doors.old) (Some ends.number) sessions.old.items }
     requires fresh { AreFresh first.now.value.setup.limits.copies
         (ends_told E.Give.tells E.Take.tells ends) }
-    requires given { (told : List (Entry (SessionLeft R))) → (E.tells doors.old).told ≡ Some told
+    requires given { (told : List (Entry (SessionLeft R)))
+        → (E.tells doors.old).told ≡ Some told
         → Has (Gave side (ends_told E.Give.tells E.Take.tells ends)) told }
     requires room { HasRoom sessions.old flags.old }
     requires live { AreLive desk.old.ids sessions.old.items }
@@ -271,7 +274,8 @@ fn receive<
         (E.tells doors.old) (Some ends.number) sessions.old.items }
     requires fresh { AreFresh first.now.value.setup.limits.copies
         (ends_told E.Give.tells E.Take.tells ends) }
-    requires given { (told : List (Entry (SessionLeft R))) → (E.tells doors.old).told ≡ Some told
+    requires given { (told : List (Entry (SessionLeft R)))
+        → (E.tells doors.old).told ≡ Some told
         → Has (Gave side (ends_told E.Give.tells E.Take.tells ends)) told }
     requires room { HasRoom sessions.old flags.old }
     requires live { AreLive desk.old.ids sessions.old.items }
@@ -499,15 +503,18 @@ pub fn serve<
         → (E.tells doors.old).told ≡ Some told → told ≡ [] }
     requires none { (E.tells doors.old).out ≡ [] }
     requires ids { desk.ids ≡ [] }
-    ensures served { (told : List (Entry (SessionLeft R))) → (E.tells doors.new).told ≡ Some told
+    ensures served { (told : List (Entry (SessionLeft R)))
+        → (E.tells doors.new).told ≡ Some told
         → IsServed (CameTo E.Give) runner.old.setup told }
     ensures ended { OnOk result ((told : List (Entry (SessionLeft R)))
         → (E.tells doors.new).told ≡ Some told
         → (n : ℕ) → times_given n told ≡ times_ended n told) }
-    ensures stopped { (told : List (Entry (SessionLeft R))) → (E.tells doors.new).told ≡ Some told
+    ensures stopped { (told : List (Entry (SessionLeft R)))
+        → (E.tells doors.new).told ≡ Some told
         → RoseBy (times_stopped told)
         runner.old.yeses runner.new.yeses }
-    ensures unstarted { (told : List (Entry (SessionLeft R))) → (E.tells doors.new).told ≡ Some told
+    ensures unstarted { (told : List (Entry (SessionLeft R)))
+        → (E.tells doors.new).told ≡ Some told
         → RoseBy (times_unstarted told)
         runner.old.refusals runner.new.refusals }
     ensures late { (told : List (Entry (SessionLeft R))) → (E.tells doors.new).told ≡ Some told

@@ -58,7 +58,8 @@ impl<J: Naming> Known<J> {
     /// Whether the list of this copy of the book goes on from the one that the seat saw, and has as many learns of
     /// it as it made.
     pub fn agrees(&self, shelf: &Shelf<J>) -> bool
-        ensures { IsTrue result → IsFresh J.seats self.now (record self.now { learns = shelf.now }) }
+        ensures { IsTrue result
+            → IsFresh J.seats self.now (record self.now { learns = shelf.now }) }
     {
         self.learns.begins(&shelf.learns()) && shelf.has_learns(self.number, self.learnt)
     }

@@ -78,7 +78,8 @@ impl Spawner for MemSpawner {
     }
 
     fn join_in(&mut self, other: MemSpawner)
-        ensures joins { TakesRefusals (spawner_tells other) (spawner_tells self.old) (spawner_tells self.new) }
+        ensures joins { TakesRefusals (spawner_tells other) (spawner_tells self.old)
+            (spawner_tells self.new) }
         ensures same { self.new.refused ≡ self.old.refused }
     {
         self.refusals = self.refusals.saturating_add(other.refusals);

@@ -85,10 +85,13 @@ pub fn start_all<
     requires passes { vec_len sources ≤ length passes.old }
     requires none { readings.old.items ≡ [] }
     requires none_unread { unread.old.items ≡ [] }
-    ensures sources { map (λ r. r.0) readings.new.items ++ map (λ n. n.source) unread.new.items ≡ sources.items }
-    ensures passes { map (λ r. r.1) readings.new.items ++ map (λ n. n.pass) unread.new.items ++ passes.new ≡ passes.old }
+    ensures sources { map (λ r. r.0) readings.new.items ++ map (λ n. n.source) unread.new.items
+        ≡ sources.items }
+    ensures passes { map (λ r. r.1) readings.new.items ++ map (λ n. n.pass) unread.new.items
+        ++ passes.new ≡ passes.old }
     ensures count { vec_len readings.new + vec_len unread.new ≡ vec_len sources }
-    ensures counts { AllStarted result (P.tells spawner.old).refusals (P.tells spawner.new).refusals }
+    ensures counts { AllStarted result (P.tells spawner.old).refusals
+        (P.tells spawner.new).refusals }
     ensures all { IsTrue result → unread.new.items ≡ [] }
 {
     let mut goes_on = true;
@@ -120,7 +123,8 @@ pub fn join_all<S: Source, R: Wait + Threads + Copy>(
     ensures room { vec_capacity sources.new ≡ vec_capacity sources.old }
     ensures gate { owner.new.gate ≡ owner.old.gate }
     ensures knows { owner.new.knows ≡ with_ended owner.old.knows owner.new.knows.ended }
-    ensures backs { (k : ℕ) (r : S × Known) (s : S) → slice_get readings.items k ≡ Some r → slice_get sources.new.items k ≡ Some s
+    ensures backs { (k : ℕ) (r : S × Known) (s : S) → slice_get readings.items k ≡ Some r
+        → slice_get sources.new.items k ≡ Some s
         → WasRead S.tells r.0 r.1 s owner.new.knows.ended }
 {
     for reading in readings {
@@ -140,7 +144,8 @@ pub fn take_back<S: Source, R: Wait + Copy>(
     requires gates { All (λ n. n.pass.gate ≡ owner.old.gate) unread.items }
     ensures sources { sources.new.items ≡ sources.old.items ++ map (λ n. n.source) unread.items }
     ensures gate { owner.new.gate ≡ owner.old.gate }
-    ensures knows { owner.new.knows ≡ fold joined owner.old.knows (map (λ n. n.pass.knows) unread.items) }
+    ensures knows { owner.new.knows
+        ≡ fold joined owner.old.knows (map (λ n. n.pass.knows) unread.items) }
 {
     for back in unread {
         let NotStarted { source, pass } = back;

@@ -38,7 +38,9 @@ fn push_first_pair(
     requires { 0 < length text.now }
     ensures some { IfOk result (λ len. 0 < len) }
     ensures within { IfOk result (λ len. len ≤ length text.now) }
-    ensures same { IfOk result (λ len. out.old ++ swap_form copy (own.now ++ told.now) text.now ≡ out.new ++ swap_form copy (own.now ++ told.now) (drop len text.now)) }
+    ensures same { IfOk result
+        (λ len. out.old ++ swap_form copy (own.now ++ told.now) text.now
+        ≡ out.new ++ swap_form copy (own.now ++ told.now) (drop len text.now)) }
 {
     let end = first_or_len(text, b'&');
     push_pair(out, alloc, copy, own, told, &text[..end])?;

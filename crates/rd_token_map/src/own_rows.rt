@@ -47,7 +47,8 @@ impl OwnRows {
     /// 256. The row is shared with that list. After want of memory nothing has changed.
     pub fn learn(&mut self, rows: &Rows, place: usize) -> Result<(), NoMemory>
         requires { place < length rows.now }
-        ensures ok { OnOk result (self.new ≡ learn_row 256 self.old (slice_index_or rows.now place [])) }
+        ensures ok { OnOk result
+            (self.new ≡ learn_row 256 self.old (slice_index_or rows.now place [])) }
         ensures err { OnErr result (self.new ≡ self.old) }
     {
         self.rows.learn(MOST_ROWS, rows, place)

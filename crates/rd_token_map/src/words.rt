@@ -55,7 +55,9 @@ fn push_first_words(words: &mut Words, alloc: Global, text: &[u8]) -> Result<usi
     requires { 0 < length text.now }
     ensures some { IfOk result (λ len. 0 < len) }
     ensures within { IfOk result (λ len. len ≤ length text.now) }
-    ensures same { IfOk result (λ len. words.old ++ words_in_form text.now ≡ words.new ++ words_in_form (drop len text.now)) }
+    ensures same { IfOk result
+        (λ len. words.old ++ words_in_form text.now
+        ≡ words.new ++ words_in_form (drop len text.now)) }
 {
     let end = first_or_len(text, b'&');
     push_pair_words(words, alloc, &text[..end])?;

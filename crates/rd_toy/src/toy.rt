@@ -163,7 +163,13 @@ fn is_open(cut: WordCut, len: usize, whole: bool) -> bool
 }
 
 fn cursor_at(at: u32) -> Cursor
-    ensures { result ≡ record { at = at; mode = 0; left = 0; mark = 0; beside = record { from = 0; to = 0; at = 0; left = 0 } } }
+    ensures { result ≡ record {
+      at = at;
+      mode = 0;
+      left = 0;
+      mark = 0;
+      beside = record { from = 0; to = 0; at = 0; left = 0 };
+    } }
 {
     Cursor {
         at,

@@ -38,7 +38,8 @@ pub(crate) fn send_all<K: Sink>(sinks: &mut Vec<K>, sends: &Sends) -> Result<(),
 
 /// The bytes of the send that stands there, where it is for this link.
 fn bytes_for(sends: &Sends, place: usize, link: usize) -> Option<&[u8]>
-    ensures { MatchOption result ((s : Send) → slice_get sends.now place ≡ Some s → s.link.0 ≢ link)
+    ensures { MatchOption result
+        ((s : Send) → slice_get sends.now place ≡ Some s → s.link.0 ≢ link)
         (λ bytes. slice_get sends.now place ≡ Some (record { link = record { 0 = link }; bytes = bytes.now })) }
 {
     if place < sends.len() && sends.link_at(place).0 as usize == link {

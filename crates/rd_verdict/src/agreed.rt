@@ -30,7 +30,8 @@ fn row_at(lists: &[Tokens], place: usize) -> Option<Row>
     requires some { 1 ≤ length lists.now }
     requires few { length lists.now ≤ 8 }
     requires soft { All (λ tokens. is_soft (slice_get tokens place) ≡ true) lists.now }
-    ensures { result ≡ (if list_all is_row_word (texts_at lists.now place) then Some (texts_at lists.now place) else None) }
+    ensures { result ≡ (if list_all is_row_word (texts_at lists.now place)
+        then Some (texts_at lists.now place) else None) }
 {
     let shown = row_word(lists[0].word_at(place))?;
     let mut row = Row::start(shown);
@@ -42,7 +43,8 @@ fn row_at(lists: &[Tokens], place: usize) -> Option<Row>
 
 /// The word, if a row may hold it.
 fn row_word(word: &[u8]) -> Option<&[u8]>
-    ensures word { option_map (λ w. w.now) result ≡ (if is_row_word word.now then Some word.now else None) }
+    ensures word { option_map (λ w. w.now) result
+        ≡ (if is_row_word word.now then Some word.now else None) }
     ensures fits { IfSome result (λ w. IsRowWord w.now) }
 {
     if is_row_word(word) { Some(word) } else { None }

@@ -53,13 +53,15 @@ pub(crate) fn longest_of(lists: &[Tokens]) -> usize
 /// Whether all copies have the same token there, or none has one.
 fn is_alike_at(lists: &[Tokens], place: usize) -> bool
     requires { 3 ≤ length lists.now }
-    ensures { result ≡ list_all (λ tokens. same (slice_get tokens place) (token_at lists.now 0 place)) lists.now }
+    ensures { result ≡ list_all
+        (λ tokens. same (slice_get tokens place) (token_at lists.now 0 place)) lists.now }
 {
     are_all_same(&lists[1..], &lists[0], place)
 }
 
 fn are_all_same(lists: &[Tokens], first: &Tokens, place: usize) -> bool
-    ensures { result ≡ list_all (λ tokens. same (slice_get tokens place) (slice_get first.now place)) lists.now }
+    ensures { result ≡ list_all
+        (λ tokens. same (slice_get tokens place) (slice_get first.now place)) lists.now }
 {
     lists.iter().all(|list| list.is_same_at(first, place))
 }
@@ -144,7 +146,8 @@ fn disagreement(place: usize, copy: Option<usize>) -> Option<Verdict>
 
 /// The least copy that has a token where the first has none, or the other way round.
 fn first_alone(lists: &[Tokens], first: &Tokens, place: usize) -> Option<usize>
-    ensures copy { result ≡ position (λ tokens. one_alone (slice_get tokens place) (slice_get first.now place)) lists.now }
+    ensures copy { result ≡ position
+        (λ tokens. one_alone (slice_get tokens place) (slice_get first.now place)) lists.now }
     ensures within { IfSome result (λ k. k < length lists.now) }
 {
     lists.iter().position(|list| list.is_alone_at(first, place))
@@ -152,7 +155,8 @@ fn first_alone(lists: &[Tokens], first: &Tokens, place: usize) -> Option<usize>
 
 /// The least copy that has another token than the first.
 fn first_other(lists: &[Tokens], first: &Tokens, place: usize) -> Option<usize>
-    ensures copy { result ≡ position (λ tokens. not (same (slice_get tokens place) (slice_get first.now place))) lists.now }
+    ensures copy { result ≡ position
+        (λ tokens. not (same (slice_get tokens place) (slice_get first.now place))) lists.now }
     ensures within { IfSome result (λ k. k < length lists.now) }
 {
     lists.iter().position(|list| !list.is_same_at(first, place))
@@ -160,7 +164,8 @@ fn first_other(lists: &[Tokens], first: &Tokens, place: usize) -> Option<usize>
 
 /// The least copy that has no Soft token there.
 fn first_not_soft(lists: &[Tokens], place: usize) -> Option<usize>
-    ensures copy { result ≡ position (λ tokens. not (is_soft (slice_get tokens place))) lists.now }
+    ensures copy { result ≡ position
+        (λ tokens. not (is_soft (slice_get tokens place))) lists.now }
     ensures within { IfSome result (λ k. k < length lists.now) }
 {
     lists.iter().position(|list| !list.is_soft_at(place))

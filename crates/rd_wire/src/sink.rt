@@ -62,9 +62,12 @@ impl<R: Wait + Copy> Sink for WireSink<R> {
 
     fn push(&mut self, bytes: &[u8]) -> Result<(), Failed>
         requires { (sink_tells self.old).is_closed ≡ false }
-        ensures writes { Writes bytes.now failed result (sink_tells self.old) (sink_tells self.new) }
-        ensures listed { is_some (fault_at self.old.calls self.old.failing) ≡ true → result ≡ Err failed }
-        ensures after { FailsAfter (fault_at self.old.calls self.old.failing) self.old.held bytes.now self.new.held }
+        ensures writes { Writes bytes.now failed result (sink_tells self.old)
+            (sink_tells self.new) }
+        ensures listed { is_some (fault_at self.old.calls self.old.failing) ≡ true
+            → result ≡ Err failed }
+        ensures after { FailsAfter
+            (fault_at self.old.calls self.old.failing) self.old.held bytes.now self.new.held }
         ensures calls { self.new.calls ≡ counted self.old.calls }
         ensures failing { self.new.failing ≡ self.old.failing }
     {

@@ -49,7 +49,8 @@ fn form_of_two<'a>(command: &str, file: &'a str) -> Option<Command<'a>>
 
 /// What a command asks for with two words behind it.
 fn form_of_three<'a>(command: &str, settings: &'a str, last: &'a str) -> Option<Command<'a>>
-    ensures form { option_map form_in result ≡ form_of_three command.now settings.entry.now last.entry.now }
+    ensures form { option_map form_in result
+        ≡ form_of_three command.now settings.entry.now last.entry.now }
     ensures range { IfSome result HasRange }
 {
     if command == "replay" {

@@ -105,7 +105,8 @@ fn fault_line(alloc: Global, fault: &SettingsFail) -> Result<String, AllocError>
 
 /// The line of an unknown key. Bytes that aren't printable, or a blank, stand as `?`.
 fn unknown_line(alloc: Global, key: &[u8]) -> Result<String, AllocError>
-    ensures { IfOk result (λ text. string_bytes text ≡ fault_line (SettingsFail.Unknown key.now)) }
+    ensures { IfOk result (λ text. string_bytes text
+        ≡ fault_line (SettingsFail.Unknown key.now)) }
 {
     let mut line = "settings: Unknown ".to_string(alloc)?;
     for byte in key {

@@ -86,9 +86,11 @@ pub fn replay_main<F: Files, K: Sink>(
 ) -> u8
     requires { (K.tells out.old).is_closed ≡ false }
     ensures range { result ≤ 6 }
-    ensures status { (all : List NamedFile) → (F.tells files.old).files ≡ Some all → result ≤ 3
+    ensures status { (all : List NamedFile) → (F.tells files.old).files ≡ Some all
+        → result ≤ 3
         → result ≡ (outcome (map string_bytes words.now) all).status }
-    ensures text { (all : List NamedFile) → (F.tells files.old).files ≡ Some all → result ≤ 3
+    ensures text { (all : List NamedFile) → (F.tells files.old).files ≡ Some all
+        → result ≤ 3
         → (K.tells out.new).held ≡ held_with (K.tells out.old).held (outcome (map string_bytes words.now) all).text }
     ensures prefix { (all : List NamedFile) → (F.tells files.old).files ≡ Some all
         → HoldsPrefix (K.tells out.old).held (K.tells out.new).held (outcome (map string_bytes words.now) all).text }
@@ -117,19 +119,22 @@ fn answer<F: Files, K: Sink>(
 ) -> Result<u8, Fault>
     requires { (K.tells out.old).is_closed ≡ false }
     ensures range { IfOk result (λ status. status ≤ 3) }
-    ensures status { IfOk result (λ status. (all : List NamedFile) → (F.tells files.old).files ≡ Some all
+    ensures status { IfOk result
+        (λ status. (all : List NamedFile) → (F.tells files.old).files ≡ Some all
         → status ≡ (outcome (map string_bytes words.now) all).status) }
     ensures text { OnOk result ((all : List NamedFile) → (F.tells files.old).files ≡ Some all
         → (K.tells out.new).held ≡ held_with (K.tells out.old).held (outcome (map string_bytes words.now) all).text) }
     ensures prefix { OnErr result ((all : List NamedFile) → (F.tells files.old).files ≡ Some all
         → HoldsPrefix (K.tells out.old).held (K.tells out.new).held (outcome (map string_bytes words.now) all).text) }
-    ensures other_words { OnOk result (form_of (map string_bytes words.now) ≡ None → (K.tells out.new).held
+    ensures other_words { OnOk result
+        (form_of (map string_bytes words.now) ≡ None → (K.tells out.new).held
         ≡ held_with (K.tells out.old).held usage.text) }
     ensures two { IfOk result (λ status. (status ≡ 2) ↔ (form_of (map string_bytes words.now)
         ≡ None)) }
     ensures read_fail { result ≡ Err Fault.ReadFail
         → Rose (F.tells files.old).faults (F.tells files.new).faults × ((K.tells out.new).held ≡ (K.tells out.old).held) }
-    ensures write_fail { result ≡ Err Fault.WriteFail → Rose (K.tells out.old).faults (K.tells out.new).faults }
+    ensures write_fail { result ≡ Err Fault.WriteFail
+        → Rose (K.tells out.old).faults (K.tells out.new).faults }
     ensures reads { StaysRead (F.tells files.old) (F.tells files.new) }
     ensures stays { StaysOpen (K.tells out.old) (K.tells out.new) }
 {
@@ -150,7 +155,8 @@ fn perform<K: Sink>(alloc: Global, work: Work, out: &mut K) -> Result<u8, Fault>
     ensures prefix { OnErr result (HoldsPrefix (K.tells out.old).held (K.tells out.new).held
         (work_outcome work).text) }
     ensures read_fail { result ≢ Err Fault.ReadFail }
-    ensures write_fail { result ≡ Err Fault.WriteFail → Rose (K.tells out.old).faults (K.tells out.new).faults }
+    ensures write_fail { result ≡ Err Fault.WriteFail
+        → Rose (K.tells out.old).faults (K.tells out.new).faults }
     ensures stays { StaysOpen (K.tells out.old) (K.tells out.new) }
 {
     match work {
@@ -187,7 +193,8 @@ fn replay<K: Sink>(
     ensures prefix { OnErr result (HoldsPrefix (K.tells out.old).held (K.tells out.new).held
         (replay_outcome dialect names.now limits script.now).text) }
     ensures read_fail { result ≢ Err Fault.ReadFail }
-    ensures write_fail { result ≡ Err Fault.WriteFail → Rose (K.tells out.old).faults (K.tells out.new).faults }
+    ensures write_fail { result ≡ Err Fault.WriteFail
+        → Rose (K.tells out.old).faults (K.tells out.new).faults }
     ensures stays { StaysOpen (K.tells out.old) (K.tells out.new) }
 {
     let ending = run_in_dialect(alloc, dialect, names, limits, script, out)?;
@@ -245,7 +252,8 @@ fn generate_and_run<K: Sink>(
     ensures prefix { OnErr result (HoldsPrefix (K.tells out.old).held (K.tells out.new).held
         (generate_under limits number).text) }
     ensures read_fail { result ≢ Err Fault.ReadFail }
-    ensures write_fail { result ≡ Err Fault.WriteFail → Rose (K.tells out.old).faults (K.tells out.new).faults }
+    ensures write_fail { result ≡ Err Fault.WriteFail
+        → Rose (K.tells out.old).faults (K.tells out.new).faults }
     ensures stays { StaysOpen (K.tells out.old) (K.tells out.new) }
 {
     let script = generate(alloc, limits.copies, number)?;
@@ -266,7 +274,8 @@ pub fn refuse_to_serve<K: Sink>(alloc: Global, refusal: Refusal, out: &mut K) ->
         (refusal_outcome refusal).text }
     ensures prefix { HoldsPrefix (K.tells out.old).held (K.tells out.new).held
         (refusal_outcome refusal).text }
-    ensures silent { is_told refusal ≡ false → (K.tells out.new).held ≡ (K.tells out.old).held }
+    ensures silent { is_told refusal ≡ false
+        → (K.tells out.new).held ≡ (K.tells out.old).held }
     ensures four { result ≡ 4 → refusal ≡ Refusal.Unread }
     ensures five { result ≡ 5 → Rose (K.tells out.old).faults (K.tells out.new).faults }
     ensures stays { StaysOpen (K.tells out.old) (K.tells out.new) }
@@ -291,9 +300,11 @@ fn refuse<K: Sink>(alloc: Global, refusal: Refusal, out: &mut K) -> Result<u8, F
         (refusal_outcome refusal).text) }
     ensures prefix { OnErr result (HoldsPrefix (K.tells out.old).held (K.tells out.new).held
         (refusal_outcome refusal).text) }
-    ensures silent { is_told refusal ≡ false → (K.tells out.new).held ≡ (K.tells out.old).held }
+    ensures silent { is_told refusal ≡ false
+        → (K.tells out.new).held ≡ (K.tells out.old).held }
     ensures read_fail { result ≡ Err Fault.ReadFail → refusal ≡ Refusal.Unread }
-    ensures write_fail { result ≡ Err Fault.WriteFail → Rose (K.tells out.old).faults (K.tells out.new).faults }
+    ensures write_fail { result ≡ Err Fault.WriteFail
+        → Rose (K.tells out.old).faults (K.tells out.new).faults }
     ensures stays { StaysOpen (K.tells out.old) (K.tells out.new) }
 {
     let status = match &refusal {

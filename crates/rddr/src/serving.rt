@@ -64,7 +64,8 @@ pub fn run_main<
     keeper: &mut Y,
 ) -> u8
     requires output { (K.tells out.old).is_closed ≡ false }
-    requires untold { (told : List (Entry (SessionLeft R))) → (E.tells doors.old).told ≡ Some told
+    requires untold { (told : List (Entry (SessionLeft R)))
+        → (E.tells doors.old).told ≡ Some told
         → told ≡ [] }
     requires none { (E.tells doors.old).out ≡ [] }
     ensures range { result ≤ 7 }
@@ -75,9 +76,11 @@ pub fn run_main<
         → IsServed (CameTo E.Give) (setup_of settings) told }
     ensures ended { result ≡ 0 → (told : List (Entry (SessionLeft R)))
         → (E.tells doors.new).told ≡ Some told → (n : ℕ) → times_given n told ≡ times_ended n told }
-    ensures stopped { (told : List (Entry (SessionLeft R))) → (E.tells doors.new).told ≡ Some told
+    ensures stopped { (told : List (Entry (SessionLeft R)))
+        → (E.tells doors.new).told ≡ Some told
         → RoseBy (times_stopped told) (T.tells stop.old).yeses (T.tells stop.new).yeses }
-    ensures unstarted { (told : List (Entry (SessionLeft R))) → (E.tells doors.new).told ≡ Some told
+    ensures unstarted { (told : List (Entry (SessionLeft R)))
+        → (E.tells doors.new).told ≡ Some told
         → RoseBy (times_unstarted told)
         (P.tells spawner.old).refusals (P.tells spawner.new).refusals }
     ensures late { (told : List (Entry (SessionLeft R))) → (E.tells doors.new).told ≡ Some told
@@ -238,17 +241,21 @@ fn serve_by<
     keeper: &mut Y,
 ) -> u8
     requires limits { AreLimits settings.limits }
-    requires untold { (told : List (Entry (SessionLeft R))) → (E.tells doors.old).told ≡ Some told
+    requires untold { (told : List (Entry (SessionLeft R)))
+        → (E.tells doors.old).told ≡ Some told
         → told ≡ [] }
     requires none { (E.tells doors.old).out ≡ [] }
     ensures range { result ≤ 7 }
-    ensures served { (told : List (Entry (SessionLeft R))) → (E.tells doors.new).told ≡ Some told
+    ensures served { (told : List (Entry (SessionLeft R)))
+        → (E.tells doors.new).told ≡ Some told
         → IsServed (CameTo E.Give) (setup_of settings) told }
     ensures ended { result ≡ 0 → (told : List (Entry (SessionLeft R)))
         → (E.tells doors.new).told ≡ Some told → (n : ℕ) → times_given n told ≡ times_ended n told }
-    ensures stopped { (told : List (Entry (SessionLeft R))) → (E.tells doors.new).told ≡ Some told
+    ensures stopped { (told : List (Entry (SessionLeft R)))
+        → (E.tells doors.new).told ≡ Some told
         → RoseBy (times_stopped told) (T.tells stop.old).yeses (T.tells stop.new).yeses }
-    ensures unstarted { (told : List (Entry (SessionLeft R))) → (E.tells doors.new).told ≡ Some told
+    ensures unstarted { (told : List (Entry (SessionLeft R)))
+        → (E.tells doors.new).told ≡ Some told
         → RoseBy (times_unstarted told)
         (P.tells spawner.old).refusals (P.tells spawner.new).refusals }
     ensures late { (told : List (Entry (SessionLeft R))) → (E.tells doors.new).told ≡ Some told
@@ -307,17 +314,21 @@ fn serve_with<
     requires book { list.seen.book ≡ J.book }
     requires seats { J.seats ≡ 33 }
     requires limits { AreLimits settings.limits }
-    requires untold { (told : List (Entry (SessionLeft R))) → (E.tells doors.old).told ≡ Some told
+    requires untold { (told : List (Entry (SessionLeft R)))
+        → (E.tells doors.old).told ≡ Some told
         → told ≡ [] }
     requires none { (E.tells doors.old).out ≡ [] }
     ensures range { result ≤ 7 }
-    ensures served { (told : List (Entry (SessionLeft R))) → (E.tells doors.new).told ≡ Some told
+    ensures served { (told : List (Entry (SessionLeft R)))
+        → (E.tells doors.new).told ≡ Some told
         → IsServed (CameTo E.Give) (setup_of settings) told }
     ensures ended { result ≡ 0 → (told : List (Entry (SessionLeft R)))
         → (E.tells doors.new).told ≡ Some told → (n : ℕ) → times_given n told ≡ times_ended n told }
-    ensures stopped { (told : List (Entry (SessionLeft R))) → (E.tells doors.new).told ≡ Some told
+    ensures stopped { (told : List (Entry (SessionLeft R)))
+        → (E.tells doors.new).told ≡ Some told
         → RoseBy (times_stopped told) (T.tells stop.old).yeses (T.tells stop.new).yeses }
-    ensures unstarted { (told : List (Entry (SessionLeft R))) → (E.tells doors.new).told ≡ Some told
+    ensures unstarted { (told : List (Entry (SessionLeft R)))
+        → (E.tells doors.new).told ≡ Some told
         → RoseBy (times_unstarted told)
         (P.tells spawner.old).refusals (P.tells spawner.new).refusals }
     ensures late { (told : List (Entry (SessionLeft R))) → (E.tells doors.new).told ≡ Some told

@@ -41,13 +41,16 @@ pub enum Work {
 /// What the words behind the program's name ask for, with all files read that they name, in the order of the words.
 pub fn work_of<F: Files>(alloc: Global, words: &[String], files: &mut F) -> Result<Work, Refusal>
     ensures ready { IfOk result IsReady }
-    ensures work { IfOk result (λ work. (all : List NamedFile) → (F.tells files.old).files ≡ Some all
+    ensures work { IfOk result
+        (λ work. (all : List NamedFile) → (F.tells files.old).files ≡ Some all
         → outcome (map string_bytes words.now) all ≡ work_outcome work) }
     ensures refused { IfErr result (λ refusal. is_told refusal ≡ true → (all : List NamedFile)
         → (F.tells files.old).files ≡ Some all → outcome (map string_bytes words.now) all
         ≡ refusal_outcome refusal) }
-    ensures words { (result ≡ Err Refusal.Words) ↔ (form_of (map string_bytes words.now) ≡ None) }
-    ensures failed { result ≡ Err Refusal.Unread → Rose (F.tells files.old).faults (F.tells files.new).faults }
+    ensures words { (result ≡ Err Refusal.Words)
+        ↔ (form_of (map string_bytes words.now) ≡ None) }
+    ensures failed { result ≡ Err Refusal.Unread
+        → Rose (F.tells files.old).faults (F.tells files.new).faults }
     ensures reads { StaysRead (F.tells files.old) (F.tells files.new) }
 {
     match command_of(words) {
@@ -59,13 +62,15 @@ pub fn work_of<F: Files>(alloc: Global, words: &[String], files: &mut F) -> Resu
 fn work_for<F: Files>(alloc: Global, command: Command, files: &mut F) -> Result<Work, Refusal>
     requires { HasRange command }
     ensures ready { IfOk result IsReady }
-    ensures work { IfOk result (λ work. (all : List NamedFile) → (F.tells files.old).files ≡ Some all
+    ensures work { IfOk result
+        (λ work. (all : List NamedFile) → (F.tells files.old).files ≡ Some all
         → form_outcome all (Some (form_in command.entry)) ≡ work_outcome work) }
     ensures refused { IfErr result (λ refusal. is_told refusal ≡ true → (all : List NamedFile)
         → (F.tells files.old).files ≡ Some all → form_outcome all (Some (form_in command.entry))
         ≡ refusal_outcome refusal) }
     ensures words { result ≢ Err Refusal.Words }
-    ensures failed { result ≡ Err Refusal.Unread → Rose (F.tells files.old).faults (F.tells files.new).faults }
+    ensures failed { result ≡ Err Refusal.Unread
+        → Rose (F.tells files.old).faults (F.tells files.new).faults }
     ensures reads { StaysRead (F.tells files.old) (F.tells files.new) }
 {
     match command {
@@ -98,13 +103,15 @@ pub(crate) fn settings_file<F: Files>(
     files: &mut F,
 ) -> Result<Settings, Refusal>
     ensures limits { IfOk result (λ settings. AreLimits settings.limits) }
-    ensures settings { IfOk result (λ settings. (all : List NamedFile) → (F.tells files.old).files
+    ensures settings { IfOk result
+        (λ settings. (all : List NamedFile) → (F.tells files.old).files
         ≡ Some all → settings_of_file (file_of name.now all) ≡ Ok settings) }
     ensures refused { IfErr result (λ refusal. is_told refusal ≡ true → (all : List NamedFile)
         → (F.tells files.old).files ≡ Some all → settings_of_file (file_of name.now all)
         ≡ Err (refusal_outcome refusal)) }
     ensures words { result ≢ Err Refusal.Words }
-    ensures failed { result ≡ Err Refusal.Unread → Rose (F.tells files.old).faults (F.tells files.new).faults }
+    ensures failed { result ≡ Err Refusal.Unread
+        → Rose (F.tells files.old).faults (F.tells files.new).faults }
     ensures reads { StaysRead (F.tells files.old) (F.tells files.new) }
 {
     match files.read_all(alloc, name, MOST_SETTINGS_BYTES) {
@@ -137,13 +144,15 @@ fn replay_file<F: Files>(
 ) -> Result<Work, Refusal>
     requires { AreLimits settings.limits }
     ensures ready { IfOk result IsReady }
-    ensures work { IfOk result (λ work. (all : List NamedFile) → (F.tells files.old).files ≡ Some all
+    ensures work { IfOk result
+        (λ work. (all : List NamedFile) → (F.tells files.old).files ≡ Some all
         → replay_under settings (file_of name.now all) ≡ work_outcome work) }
     ensures refused { IfErr result (λ refusal. is_told refusal ≡ true → (all : List NamedFile)
         → (F.tells files.old).files ≡ Some all → replay_under settings (file_of name.now all)
         ≡ refusal_outcome refusal) }
     ensures words { result ≢ Err Refusal.Words }
-    ensures failed { result ≡ Err Refusal.Unread → Rose (F.tells files.old).faults (F.tells files.new).faults }
+    ensures failed { result ≡ Err Refusal.Unread
+        → Rose (F.tells files.old).faults (F.tells files.new).faults }
     ensures reads { StaysRead (F.tells files.old) (F.tells files.new) }
 {
     match files.read_all(alloc, name, MOST_SCRIPT_BYTES) {
