@@ -97,7 +97,7 @@ class Proxy:
         self.process.send_signal(signal.SIGTERM)
         status = self.process.wait(30)
         seconds = time.monotonic() - began
-        results.say("a stop", status == 0 and seconds < 5, f"status {status} after {seconds:.1f} s")
+        results.say("a stop", status == 0 and results.is_within(seconds, 5), f"status {status} after {seconds:.1f} s")
 
 
 def addresses(ports):
@@ -105,11 +105,16 @@ def addresses(ports):
 
 
 class Results:
-    """What was seen, a line each: `right` counts what went as it should, and `wrong` what went otherwise."""
+    """What was seen, a line each: `right` counts what went as it should, and `wrong` what went otherwise. Where they are
+    untimed, what took too long is shown and not counted as wrong."""
 
-    def __init__(self):
+    def __init__(self, untimed=False):
         self.right = 0
         self.wrong = 0
+        self.untimed = untimed
+
+    def is_within(self, measured, most):
+        return self.untimed or measured < most
 
     def say(self, name, holds, text=""):
         self.right += bool(holds)
