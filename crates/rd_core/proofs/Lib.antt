@@ -12,3 +12,4 @@ pub mod Faces
 mod Looked
 mod Quieted
 mod Alone
+mod Watched

@@ -26,6 +26,7 @@ use Rattle.rd_rules.proofs.Streams.{follows_well-append}
 use Rattle.rd_reading.specs.declared.setup.Setup.{Setup}
 use Rattle.rd_core.specs.declared.stage.Stage.{Stage}
 use Rattle.rd_core.specs.declared.clock.Clock.{Clock}
+use Rattle.rd_core.specs.declared.watch.Watch.{Watch}
 use Rattle.rd_reading.specs.Room.{HasRoom}
 use Rattle.rd_reading.specs.Seen.{seen_request, seen_front}
 use Rattle.rd_reading.specs.declared.exchange.Request.{Request}
@@ -33,6 +34,7 @@ use Rattle.rd_core.specs.Stages.{seen_stage, HasAsked}
 use Rattle.rd_core.specs.Clocks.{standing}
 use Rattle.rd_core.specs.Kept.{Fits, UnitFits, IsOut, IsKept, HasMore, is_oversized}
 use Rattle.rd_core.specs.Standing.{next_reading, now_from, now_after, began_at, standing_by, standing_after}
+use Rattle.rd_core.proofs.Watched.{watch_same}
 
 pub is_some-map : {A B : Type 0} (f : A → B) (o : Option A) → is_some (option_map f o) ≡ is_some o
 is_some-map f None = refl
@@ -227,24 +229,26 @@ more_same setup old new entries out left more =
       room = more.room;
     }
 
-pub kept_same : (g : Grammar) (setup : Setup) (old new : Stage) (entries sum : ℕ) (end : Option Ending) → new.count ≡ old.count → new.out ≡ old.out → seen_front new.left ≡ seen_front old.left
-    → IsKept g setup old entries sum end → IsKept g setup new entries sum end
-kept_same g setup old new entries sum end count out left kept = record {
+pub kept_same : (g : Grammar) (setup : Setup) (old new : Stage) (watch : Watch) (entries sum : ℕ) (end : Option Ending) → new.count ≡ old.count → new.out ≡ old.out → seen_front new.left ≡ seen_front old.left
+    → IsKept g setup old watch entries sum end → IsKept g setup new watch entries sum end
+kept_same g setup old new watch entries sum end count out left kept = record {
   limits = kept.limits;
   count = subst (λ n. n ≤ setup.limits.exchanges_max) (sym count) kept.count;
   asked = subst (HasAsked g) (sym out) kept.asked;
   out = λ ask is. ap (rule.ask_at g setup.limits.mask) left ∙ kept.out ask (ap (option_map seen_request) (sym out) ∙ is);
+  seen = watch_same g old new watch out left kept.seen;
   masked = kept.masked;
   more = λ none. more_same setup old new entries out left (kept.more none);
 }
 
 -- a session that has ended keeps what a live one did
-pub kept_over : (g : Grammar) (setup : Setup) (stage : Stage) (entries sum : ℕ) (x : Ending) → IsKept g setup stage entries sum None → IsKept g setup stage entries sum (Some x)
-kept_over g setup stage entries sum x kept = record {
+pub kept_over : (g : Grammar) (setup : Setup) (stage : Stage) (watch : Watch) (entries sum : ℕ) (x : Ending) → IsKept g setup stage watch entries sum None → IsKept g setup stage watch entries sum (Some x)
+kept_over g setup stage watch entries sum x kept = record {
   limits = kept.limits;
   count = kept.count;
   asked = kept.asked;
   out = kept.out;
+  seen = kept.seen;
   masked = kept.masked;
   more = λ none. absurd (cc none);
 }

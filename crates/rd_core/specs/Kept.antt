@@ -11,7 +11,9 @@ use Rattle.rd_rules.specs.Trouble.{open_asking}
 use Rattle.rd_reading.specs.declared.setup.Setup.{Setup}
 use Rattle.rd_core.specs.declared.stage.Stage.{Stage}
 use Rattle.rd_reading.specs.Seen.{seen_request, seen_front}
+use Rattle.rd_core.specs.declared.watch.Watch.{Watch}
 use Rattle.rd_core.specs.Stages.{HasAsked}
+use Rattle.rd_core.specs.Watches.{IsWatch}
 
 -- a piece is longer than any that a link gives
 abbrev pub is_oversized : What → Bool
@@ -40,10 +42,11 @@ pub record HasMore (setup : Setup) (stage : Stage) (entries : ℕ) : Type 0 wher
   pub answering : All (Fits setup.limits.unit_max) stage.left.answering.opens.items
   pub room : entries < 1048576
 
-pub record IsKept (g : Grammar) (setup : Setup) (stage : Stage) (entries sum : ℕ) (ending : Option Ending) : Type 0 where
+pub record IsKept (g : Grammar) (setup : Setup) (stage : Stage) (watch : Watch) (entries sum : ℕ) (ending : Option Ending) : Type 0 where
   pub limits : AreLimits setup.limits
   pub count : stage.count ≤ setup.limits.exchanges_max
   pub asked : HasAsked g stage.out
   pub out : IsOut g setup stage
+  pub seen : IsWatch g stage watch
   pub masked : sum ≤ (entries + 1) * 16777216
   pub more : ending ≡ None → HasMore setup stage entries

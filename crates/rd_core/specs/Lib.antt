@@ -9,4 +9,5 @@ pub mod Clocks
 pub mod Awaited
 pub mod Alone
 pub mod Looks
+pub mod Watches
 pub mod Quiet

@@ -13,6 +13,7 @@ mod step;
 mod trouble;
 mod waits;
 mod wanted;
+mod watch;
 
 pub use rd_reading::Setup;
 pub use session::Session;

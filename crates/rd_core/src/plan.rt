@@ -12,13 +12,15 @@ ghost use Rattle.rd_core.specs.Stages.{seen_stage, seen_next, read_now, HasAsked
 ghost use Rattle.rd_core.specs.Standing.{now_from};
 ghost use Rattle.rd_core.specs.Kept.{IsOut};
 ghost use Rattle.rd_core.specs.Looks.{looks_at};
+ghost use Rattle.rd_core.specs.Watches.{IsWatch};
 ghost use Rattle.rd_core.specs.Quiet.{StillWaits, IsQuiet};
 
 use crate::masks::masked_in;
 use crate::own_lists::OwnLists;
 use crate::sending::sends_of;
 use crate::stage::{Next, Stage, enter};
-use crate::trouble::{due_of, looks_at, trouble_of};
+use crate::trouble::trouble_of;
+use crate::watch::{Watch, watch_of};
 use rd_base::{Ending, NoMemory, Rows, Scan, Sends};
 use rd_dialect::Dialect;
 use rd_reading::{DoneExchange, Look, Reading, Setup, note_of, read_on};
@@ -127,6 +129,7 @@ pub(crate) struct Outcome {
     pub(crate) sends: Sends,
     pub(crate) masked: u64,
     pub(crate) trouble: Option<Ending>,
+    pub(crate) watch: Watch,
 }
 
 fn is_part(scan: Scan) -> bool
@@ -161,50 +164,29 @@ fn still_waits<D: Dialect>(dialect: &D, setup: &Setup, stage: &Stage, looks: &[L
 }
 
 /// What a step comes to where the request that is out waits for more of a reply: nothing is read again of what is open.
-/// None where more may be read.
 fn wait_on<D: Dialect>(
     alloc: Global,
     dialect: &D,
     setup: &Setup,
     stage: &Stage,
-) -> Result<Option<Outcome>, NoMemory>
+    watch: Watch,
+) -> Result<Outcome, NoMemory>
     requires limits { AreLimits setup.now.limits }
     requires count { stage.now.count ≤ setup.now.limits.exchanges_max }
-    requires asked { HasAsked (D.grammar dialect.now) stage.now.out }
-    ensures { IfOk result (λ o.
-        IfSome o (λ p. IsQuiet (D.grammar dialect.now) setup.now stage.now p)) }
+    requires waits { StillWaits (D.grammar dialect.now) setup.now stage.now }
+    requires watch { IsWatch (D.grammar dialect.now) stage.now watch }
+    ensures quiet { IfOk result (IsQuiet (D.grammar dialect.now) setup.now stage.now) }
+    ensures watch { IfOk result (λ p. IsWatch (D.grammar dialect.now) stage.now p.watch) }
 {
-    let due = due_of(dialect, stage);
-    let looks = looks_at(dialect, due, stage);
-    if !still_waits(dialect, setup, stage, looks.as_slice()) {
-        return Ok(None);
-    }
-    let trouble = trouble_of(alloc, dialect, setup, stage, due, looks.as_slice())?;
-    Ok(Some(Outcome {
+    let trouble = trouble_of(alloc, dialect, setup, stage, &watch)?;
+    Ok(Outcome {
         rows: Rows::new(alloc),
         own: None,
         sends: Sends::new(alloc),
         masked: 0,
         trouble,
-    }))
-}
-
-/// The first trouble of where a session stands.
-fn trouble_at<D: Dialect>(
-    alloc: Global,
-    dialect: &D,
-    setup: &Setup,
-    stage: &Stage,
-) -> Result<Option<Ending>, NoMemory>
-    requires asked { HasAsked (D.grammar dialect.now) stage.now.out }
-    requires limits { AreMaskLimits setup.now.limits.mask }
-    requires count { stage.now.count ≤ 65536 }
-    ensures { IfOk result (λ e. e ≡ trouble_of (rules_of (D.grammar dialect.now) setup.now)
-        (seen_stage stage.now [])) }
-{
-    let due = due_of(dialect, stage);
-    let looks = looks_at(dialect, due, stage);
-    trouble_of(alloc, dialect, setup, stage, due, looks.as_slice())
+        watch,
+    })
 }
 
 /// Reads what is open, and goes on past what was read.
@@ -237,6 +219,7 @@ fn read_further<D: Dialect>(
     ensures few_masked { IfOk result (λ p. p.masked ≤ 16777216) }
     ensures count { OnOk result (stage.new.count ≤ setup.now.limits.exchanges_max) }
     ensures asked { OnOk result (HasAsked (D.grammar dialect.now) stage.new.out) }
+    ensures watch { IfOk result (λ p. IsWatch (D.grammar dialect.now) stage.new p.watch) }
     ensures err { OnErr result (stage.new ≡ stage.old) }
 {
     let Plan {
@@ -247,13 +230,15 @@ fn read_further<D: Dialect>(
         masked,
     } = plan_of(alloc, dialect, setup, own, told, stage)?;
     let before = enter(stage, next);
-    match trouble_at(alloc, dialect, setup, stage) {
+    let watch = watch_of(dialect, stage);
+    match trouble_of(alloc, dialect, setup, stage, &watch) {
         Ok(trouble) => Ok(Outcome {
             rows,
             own: later,
             sends,
             masked,
             trouble,
+            watch,
         }),
         Err(refused) => {
             let _next = enter(stage, before);
@@ -262,7 +247,7 @@ fn read_further<D: Dialect>(
     }
 }
 
-/// Hears what is open, and goes on past what is read of it.
+/// Goes on past what is read of what is open, by what is seen of the due links.
 pub(crate) fn go_on<D: Dialect>(
     alloc: Global,
     dialect: &D,
@@ -270,11 +255,13 @@ pub(crate) fn go_on<D: Dialect>(
     own: &OwnRows,
     told: &Rows,
     stage: &mut Stage,
+    watch: Watch,
 ) -> Result<Outcome, NoMemory>
     requires limits { AreLimits setup.now.limits }
     requires count { stage.old.count ≤ setup.now.limits.exchanges_max }
     requires asked { HasAsked (D.grammar dialect.now) stage.old.out }
     requires out { IsOut (D.grammar dialect.now) setup.now stage.old }
+    requires watch { IsWatch (D.grammar dialect.now) stage.old watch }
     ensures stage { IfOk result (λ p. seen_stage stage.new (latest_of own.now p.own)
         ≡ now_from (rules_of (D.grammar dialect.now)
         setup.now) stage.old.count stage.old.bye own.now
@@ -294,10 +281,11 @@ pub(crate) fn go_on<D: Dialect>(
     ensures few_masked { IfOk result (λ p. p.masked ≤ 16777216) }
     ensures count { OnOk result (stage.new.count ≤ setup.now.limits.exchanges_max) }
     ensures asked { OnOk result (HasAsked (D.grammar dialect.now) stage.new.out) }
+    ensures watch { IfOk result (λ p. IsWatch (D.grammar dialect.now) stage.new p.watch) }
     ensures err { OnErr result (stage.new ≡ stage.old) }
 {
-    if let Some(outcome) = wait_on(alloc, dialect, setup, stage)? {
-        return Ok(outcome);
+    if still_waits(dialect, setup, stage, watch.looks.as_slice()) {
+        return wait_on(alloc, dialect, setup, stage, watch);
     }
     read_further(alloc, dialect, setup, own, told, stage)
 }

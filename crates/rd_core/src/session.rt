@@ -18,6 +18,7 @@ use crate::step::{Move, take_step};
 use crate::trouble::open_len;
 use crate::waits::{due_at, which_at};
 use crate::wanted::{is_alone, words_next};
+use crate::watch::{Watch, watch_of};
 use rd_base::{Ending, Happening, NoMemory, Rows, Sends, Side, What, Which, Words};
 use rd_dialect::Dialect;
 use rd_reading::{Setup, grown_front, start_front};
@@ -32,6 +33,7 @@ pub struct Session<D: Dialect> {
     dialect: D,
     setup: Setup,
     stage: Stage,
+    watch: Watch,
     own: OwnRows,
     clock: Clock,
     masked: u64,
@@ -48,7 +50,7 @@ impl<D: Dialect> Model for Session<D> {
 
     ghost view = { λ a. record { dialect = a.dialect; setup = a.setup; at = standing a.stage a.own a.clock; tally = record { masked = a.masked; rows = a.rows }; ending = a.ending } };
 
-    ghost invariant = { λ a. IsKept (D.grammar a.dialect) a.setup a.stage a.clock.entries a.masked a.ending };
+    ghost invariant = { λ a. IsKept (D.grammar a.dialect) a.setup a.stage a.watch a.clock.entries a.masked a.ending };
 }
 
 impl<D: Dialect> Session<D> {
@@ -68,19 +70,22 @@ impl<D: Dialect> Session<D> {
         };
         let own = OwnRows::new(alloc);
         let told = Rows::new(alloc);
-        let outcome = go_on(alloc, &dialect, &setup, &own, &told, &mut stage)?;
+        let watch = watch_of(&dialect, &stage);
+        let outcome = go_on(alloc, &dialect, &setup, &own, &told, &mut stage, watch)?;
         let Outcome {
             rows: _,
             own: later,
             sends: _,
             masked,
             trouble,
+            watch: seen,
         } = outcome;
         Ok(Session {
             alloc,
             dialect,
             setup,
             stage,
+            watch: seen,
             own: later.unwrap_or(own),
             clock: Clock {
                 entries: 0,
@@ -248,6 +253,7 @@ impl<D: Dialect> Session<D> {
             &self.dialect,
             &self.setup,
             &mut self.stage,
+            &mut self.watch,
             &self.own,
             self.clock,
             self.masked,

@@ -15,6 +15,7 @@ use crate::plan::{Outcome, go_on};
 use crate::stage::Stage;
 use crate::trouble::or_else;
 use crate::waits::{awaited, clock_after, full_log, late};
+use crate::watch::{Watch, watch_again};
 use rd_base::{Ending, Happening, NoMemory, Rows, Sends, What};
 use rd_dialect::Dialect;
 use rd_reading::{Setup, cut_front_back, grow_front};
@@ -39,13 +40,15 @@ pub(crate) fn take_step<D: Dialect>(
     dialect: &D,
     setup: &Setup,
     stage: &mut Stage,
+    watch: &mut Watch,
     own: &OwnRows,
     clock: Clock,
     masked: u64,
     happening: &Happening,
     told: &Rows,
 ) -> Result<Move, NoMemory>
-    requires kept { IsKept (D.grammar dialect.now) setup.now stage.old clock.entries masked None }
+    requires kept { IsKept (D.grammar dialect.now) setup.now
+        stage.old watch.old clock.entries masked None }
     requires sized { is_oversized happening.now.what ≡ false }
     ensures steps { IfOk result (λ m. Steps (rules_of (D.grammar dialect.now) setup.now)
         (standing stage.old own.now clock) (entry_of happening.now told.now)
@@ -55,9 +58,9 @@ pub(crate) fn take_step<D: Dialect>(
         (entry_of happening.now told.now) (record { masked = masked; rows = rows })
         (record { masked = m.masked; rows = m.rows })) }
     ensures kept { IfOk result (λ m. IsKept (D.grammar dialect.now)
-        setup.now stage.new m.clock.entries m.masked m.ending) }
+        setup.now stage.new watch.new m.clock.entries m.masked m.ending) }
     ensures kept_err { OnErr result (IsKept (D.grammar dialect.now)
-        setup.now stage.new clock.entries masked None) }
+        setup.now stage.new watch.new clock.entries masked None) }
     ensures err { OnErr result ((rows : List Row)
         → seen_stage stage.new rows ≡ seen_stage stage.old rows) }
 {
@@ -68,7 +71,8 @@ pub(crate) fn take_step<D: Dialect>(
         cut_front_back(&mut stage.left, &extents);
         return Ok(withheld(alloc, clock, masked, ending));
     }
-    match go_on(alloc, dialect, setup, own, told, stage) {
+    let renewed = watch_again(dialect, stage, what, watch);
+    match go_on(alloc, dialect, setup, own, told, stage, renewed) {
         Ok(
             Outcome {
                 rows,
@@ -76,8 +80,10 @@ pub(crate) fn take_step<D: Dialect>(
                 sends,
                 masked: fresh,
                 trouble,
+                watch: seen,
             },
         ) => {
+            *watch = seen;
             let clock = clock_after(setup.side, before, clock, stage, happening.at);
             let ending = ending_of(setup, what, stage, clock, trouble);
             Ok(Move {

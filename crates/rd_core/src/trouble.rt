@@ -6,40 +6,17 @@ ghost use Rattle.rd_base.specs.Words.{is_empty};
 ghost use Rattle.rd_dialect.specs.Grammar.{Grammar};
 ghost use Rattle.rd_rules.specs.Trouble as rule;
 ghost use Rattle.rd_rules.specs.Wait as wait;
-ghost use Rattle.rd_core.specs.Stages.{seen_stage, HasAsked};
+ghost use Rattle.rd_core.specs.Stages.{seen_stage};
+ghost use Rattle.rd_core.specs.Watches.{IsWatch};
 ghost use Rattle.rd_core.specs.Looks.{looks_at, least_look, looks_big, looks_cut, unsupported_look};
 ghost use Rattle.rd_reading.specs.Seen.{seen_front, seen_request, rules_of};
 
 use crate::stage::Stage;
-use arrayvec::ArrayVec;
+use crate::watch::{Watch, due_links};
 use rd_base::{Bytes, Ending, Limits, Link, NoMemory, Scan, Side, What};
-use rd_dialect::{Dialect, Due};
-use rd_reading::{
-    Front, Links, Look, Open, Request, Setup, early_fault, look_at, note_of, past_units,
-};
+use rd_dialect::Dialect;
+use rd_reading::{Front, Links, Look, Open, Request, Setup, early_fault, past_units};
 use std::alloc::Global;
-
-/// Which unit is due.
-pub(crate) fn due_of<D: Dialect>(dialect: &D, stage: &Stage) -> Due
-    requires { HasAsked (D.grammar dialect.now) stage.now.out }
-    ensures { result ≡ rule.due_of (D.grammar dialect.now) (seen_stage stage.now []) }
-{
-    match &stage.out {
-        None => Due::request(stage.left.phase),
-        Some(request) => Due::reply(request.phase, note_of(dialect, request)),
-    }
-}
-
-/// The links on which it is due.
-fn due_links(stage: &Stage) -> &Links
-    ensures { result.now.opens.items ≡ rule.due_opens (seen_stage stage.now []) }
-{
-    if stage.out.is_some() {
-        &stage.left.answering
-    } else {
-        &stage.left.asking
-    }
-}
 
 pub(crate) fn or_else(first: Option<Ending>, next: Option<Ending>) -> Option<Ending>
     ensures { result ≡ rule.or_else first next }
@@ -340,31 +317,21 @@ fn end_trouble(setup: &Setup, stage: &Stage, looks: &[Look]) -> Option<Ending>
     or_else(cut, or_else(closed(stage), last))
 }
 
-/// What is seen of the links on which a unit is due.
-pub(crate) fn looks_at<D: Dialect>(dialect: &D, due: Due, stage: &Stage) -> ArrayVec<Look, 8>
-    requires { due ≡ rule.due_of (D.grammar dialect.now) (seen_stage stage.now []) }
-    ensures { result.items ≡ looks_at (D.grammar dialect.now) stage.now }
-{
-    look_at(dialect, due, due_links(stage).as_slice())
-}
-
 /// The first trouble of where a session stands, by what is seen of the due links.
 pub(crate) fn trouble_of<D: Dialect>(
     alloc: Global,
     dialect: &D,
     setup: &Setup,
     stage: &Stage,
-    due: Due,
-    looks: &[Look],
+    watch: &Watch,
 ) -> Result<Option<Ending>, NoMemory>
     requires limits { AreMaskLimits setup.now.limits.mask }
     requires count { stage.now.count ≤ 65536 }
-    requires due { due ≡ rule.due_of (D.grammar dialect.now) (seen_stage stage.now []) }
-    requires looks { looks.now ≡ looks_at (D.grammar dialect.now) stage.now }
+    requires watch { IsWatch (D.grammar dialect.now) stage.now watch.now }
     ensures { IfOk result (λ e. e ≡ rule.trouble_of (rules_of (D.grammar dialect.now) setup.now)
         (seen_stage stage.now [])) }
 {
-    let links = due_links(stage);
+    let looks = watch.looks.as_slice();
     let scans = scan_trouble(alloc, setup, stage, looks)?;
     let exchange = stage.count + 1;
     let differs = early_fault(
@@ -372,8 +339,8 @@ pub(crate) fn trouble_of<D: Dialect>(
         dialect,
         setup.limits.mask,
         exchange,
-        due,
-        links,
+        watch.due,
+        due_links(stage),
         looks,
     )?;
     let ends = end_trouble(setup, stage, looks);

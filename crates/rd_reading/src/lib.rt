@@ -17,7 +17,7 @@ pub use exchange::{DoneExchange, Front, Reading, Replies, Request};
 pub use growth::{Extent, Extents, cut_front_back, grow_front};
 pub use judging::early_fault;
 pub use links::Links;
-pub use looks::{Look, look_at};
+pub use looks::{Look, look_again, look_at};
 pub use opens::{Open, past_units, scan_open};
 pub use read::{grown_front, note_of, read_on};
 pub use setup::Setup;

@@ -153,6 +153,18 @@ pub(crate) fn piece_of(link: Link, what: &What) -> &[u8]
     }
 }
 
+/// Whether a happening brings bytes to this link, or ends it.
+pub(crate) fn is_heard(link: Link, what: &What) -> bool
+    ensures bytes { result ≡ false → piece_of link.0 what.now ≡ [] }
+    ensures end { result ≡ false → ends link.0 what.now ≡ false }
+{
+    match what {
+        What::Piece(from, _) => *from == link,
+        What::End(from) => *from == link,
+        _ => false,
+    }
+}
+
 fn is_end_of(link: Link, what: &What) -> bool
     ensures { result ≡ ends link.0 what.now }
 {

@@ -1,35 +1,36 @@
-use Rattle.std.proofs.Common.{Option, ap, subst, ◌∙◌}
-use Rattle.std.specs.Prelude.{IfSome}
+use Rattle.std.proofs.Common.{Result, Ok, Err, ap, ◌∙◌}
+use Rattle.std.specs.Prelude.{IfOk}
 use Rattle.rd_core.specs.Stages.{seen_stage}
 use Rattle.rd_core.specs.OwnLists.{latest_of}
-use Rattle.rd_core.specs.declared.plan.Outcome.{Outcome}
-use Rattle.rd_core.specs.Quiet.{IsQuiet}
 use Rattle.rd_core.proofs.Quieted.{stage-still, sends-still, rows-still, masked-still}
-use Rattle.rd_core.proofs.plan.go_on.Given.{Over}
 use Rattle.rd_core.proofs.plan.go_on.Goals as goal
-use Rattle.rd_core.proofs.plan.go_on.Goals.{In-Some}
 
-is_quiet : (g : Over) (c : In-Some g) → IsQuiet (g.D.Dialect.grammar c.args.dialect.now) c.args.setup.now c.args.stage.now c.in-Some.outcome
-is_quiet g c = subst (λ (o : Option Outcome). IfSome o (λ p. IsQuiet (g.D.Dialect.grammar c.args.dialect.now) c.args.setup.now c.args.stage.now p)) c.in-Some.is c.in_ok-outcome.ensures
+if_ok : {A E : Type 0} (P Q : A → Type 0) (r : Result A E) → ((x : A) → P x → Q x) → IfOk r P → IfOk r Q
+if_ok P Q (Ok x) go p = go x p
+if_ok P Q (Err e) go p = p
 
-pub returns-in-Some-clause-stage : goal.returns-in-Some-clause-stage
-returns-in-Some-clause-stage g c =
+pub returns-then-still_waits-clause-stage : goal.returns-then-still_waits-clause-stage
+returns-then-still_waits-clause-stage g c =
     let stage = c.args.stage.now in
     let own = c.args.own.now in
-    let quiet = is_quiet g c in
-    ap (λ o. seen_stage stage (latest_of own o)) quiet.own ∙ stage-still (g.D.Dialect.grammar c.args.dialect.now) c.args.setup.now stage quiet.waits c.requires.out own
+    if_ok _ _ c.wait_on.result
+    (λ p quiet. ap (λ o. seen_stage stage (latest_of own o)) quiet.own ∙ stage-still (g.D.Dialect.grammar c.args.dialect.now) c.args.setup.now stage quiet.waits c.requires.out own)
+    c.wait_on.ensures.quiet
 
-pub returns-in-Some-clause-sends : goal.returns-in-Some-clause-sends
-returns-in-Some-clause-sends g c =
-    let quiet = is_quiet g c in
-    quiet.sends ∙ sends-still (g.D.Dialect.grammar c.args.dialect.now) c.args.setup.now c.args.stage.now quiet.waits c.requires.out c.args.own.now c.args.told.now
+pub returns-then-still_waits-clause-sends : goal.returns-then-still_waits-clause-sends
+returns-then-still_waits-clause-sends g c =
+    if_ok _ _ c.wait_on.result
+    (λ p quiet. quiet.sends ∙ sends-still (g.D.Dialect.grammar c.args.dialect.now) c.args.setup.now c.args.stage.now quiet.waits c.requires.out c.args.own.now c.args.told.now)
+    c.wait_on.ensures.quiet
 
-pub returns-in-Some-clause-rows : goal.returns-in-Some-clause-rows
-returns-in-Some-clause-rows g c =
-    let quiet = is_quiet g c in
-    quiet.rows ∙ rows-still (g.D.Dialect.grammar c.args.dialect.now) c.args.setup.now c.args.stage.now quiet.waits c.requires.out
+pub returns-then-still_waits-clause-rows : goal.returns-then-still_waits-clause-rows
+returns-then-still_waits-clause-rows g c =
+    if_ok _ _ c.wait_on.result
+    (λ p quiet. quiet.rows ∙ rows-still (g.D.Dialect.grammar c.args.dialect.now) c.args.setup.now c.args.stage.now quiet.waits c.requires.out)
+    c.wait_on.ensures.quiet
 
-pub returns-in-Some-clause-masked : goal.returns-in-Some-clause-masked
-returns-in-Some-clause-masked g c =
-    let quiet = is_quiet g c in
-    quiet.masked ∙ masked-still (g.D.Dialect.grammar c.args.dialect.now) c.args.setup.now c.args.stage.now quiet.waits c.requires.out
+pub returns-then-still_waits-clause-masked : goal.returns-then-still_waits-clause-masked
+returns-then-still_waits-clause-masked g c =
+    if_ok _ _ c.wait_on.result
+    (λ p quiet. quiet.masked ∙ masked-still (g.D.Dialect.grammar c.args.dialect.now) c.args.setup.now c.args.stage.now quiet.waits c.requires.out)
+    c.wait_on.ensures.quiet

@@ -26,6 +26,14 @@ pub grow_front-requires-clause-asking : goal.grow_front-requires-clause-asking
 grow_front-requires-clause-asking g c =
     has_room_asking c.args.setup.now c.args.stage.now c.args.clock.entries c.args.happening.now.what c.requires.kept.limits.most_unit c.requires.sized (c.requires.kept.more refl)
 
+pub watch_again-renewed-requires : goal.watch_again-renewed-requires
+watch_again-renewed-requires g c = record {
+  before = c.args.stage.now;
+  kept = c.requires.kept.seen;
+  out = refl;
+  left = c.in_ok-extents.ensures.ok;
+}
+
 pub go_on-requires-clause-out : goal.go_on-requires-clause-out
 go_on-requires-clause-out g c = λ ask is.
     let grammar = g.D.Dialect.grammar c.args.dialect.now in
@@ -68,13 +76,13 @@ returns-in-Some-clause-kept g c =
     let back : seen_front c.cut_front_back.new.front ≡ seen_front old.left =
     front_back what (seen_front old.left) (seen_front c.grow_front.new.front) (seen_front c.cut_front_back.new.front) extents.asking.items extents.answering.items
     c.in_ok-extents.ensures.ok c.in_ok-extents.ensures.asked c.in_ok-extents.ensures.answered c.cut_front_back.ensures.phase c.cut_front_back.ensures.asking c.cut_front_back.ensures.answering in
-    let over = kept_over grammar c.args.setup.now old c.args.clock.entries c.args.masked c.in-Some.ending c.requires.kept in
+    let over = kept_over grammar c.args.setup.now old c.args.watch.now c.args.clock.entries c.args.masked c.in-Some.ending c.requires.kept in
     let m = c.withheld.result in
     let stage : Stage = record { count = old.count; bye = old.bye; left = c.cut_front_back.new.front; out = old.out } in
-    subst (λ (k : Clock). IsKept grammar c.args.setup.now stage k.entries m.masked m.ending) (sym c.withheld.ensures.clock)
-    (subst (λ (n : ℕ). IsKept grammar c.args.setup.now stage c.args.clock.entries n m.ending) (sym c.withheld.ensures.masked)
-    (subst (λ (e : Option Ending). IsKept grammar c.args.setup.now stage c.args.clock.entries c.args.masked e) (sym c.withheld.ensures.ending)
-    (kept_same grammar c.args.setup.now old stage c.args.clock.entries c.args.masked (Some c.in-Some.ending) refl refl back over)))
+    subst (λ (k : Clock). IsKept grammar c.args.setup.now stage c.args.watch.now k.entries m.masked m.ending) (sym c.withheld.ensures.clock)
+    (subst (λ (n : ℕ). IsKept grammar c.args.setup.now stage c.args.watch.now c.args.clock.entries n m.ending) (sym c.withheld.ensures.masked)
+    (subst (λ (e : Option Ending). IsKept grammar c.args.setup.now stage c.args.watch.now c.args.clock.entries c.args.masked e) (sym c.withheld.ensures.ending)
+    (kept_same grammar c.args.setup.now old stage c.args.watch.now c.args.clock.entries c.args.masked (Some c.in-Some.ending) refl refl back over)))
 
 -- ---- a step that goes on
 
@@ -129,6 +137,7 @@ returns-in-Ok-clause-kept g c =
       count = done.count;
       asked = done.asked;
       out = is_out_after grammar c.args.setup.now stage spare (seen_front c.grow_front.new.front) left out;
+      seen = done.watch;
       masked = omega (arith, c.requires.kept.masked, done.few_masked, c.clock_after-clock.ensures.entries);
       more = λ none. has_more rules c.args.setup.now stage clock.entries
           (or_else (fault_by limits.copies what) (late_at c.args.setup.now.side limits (is_timer what) (standing stage [] clock)))
@@ -151,7 +160,7 @@ returns-in-Err-clause-kept_err g c =
     front_back c.args.happening.now.what (seen_front old.left) (seen_front after.left) (seen_front c.cut_front_back-in-Err.new.front) extents.asking.items extents.answering.items
     grown c.in_ok-extents.ensures.asked c.in_ok-extents.ensures.answered c.cut_front_back-in-Err.ensures.phase c.cut_front_back-in-Err.ensures.asking c.cut_front_back-in-Err.ensures.answering in
     let stage : Stage = record { count = after.count; bye = after.bye; left = c.cut_front_back-in-Err.new.front; out = after.out } in
-    kept_same (g.D.Dialect.grammar c.args.dialect.now) c.args.setup.now old stage c.args.clock.entries c.args.masked None
+    kept_same (g.D.Dialect.grammar c.args.dialect.now) c.args.setup.now old stage c.args.watch.now c.args.clock.entries c.args.masked None
     (ap (λ (s : Stage). s.count) same) (ap (λ (s : Stage). s.out) same) back c.requires.kept
 
 pub returns-in-Err-clause-err : goal.returns-in-Err-clause-err

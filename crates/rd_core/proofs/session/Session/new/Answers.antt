@@ -30,6 +30,7 @@ invariant_of-result g c =
       count = c.in_ok-outcome.ensures.count;
       asked = c.in_ok-outcome.ensures.asked;
       out = is_out_after grammar c.args.setup stage spare (seen_front c.in_ok-front.front) left out;
+      seen = c.in_ok-outcome.ensures.watch;
       masked = omega (arith, c.in_ok-outcome.ensures.few_masked);
       more = λ none. has_more rules c.args.setup stage 0 None outcome.trouble outcome.trouble refl refl
           (λ ask is. short_out grammar limits.mask (limits.unit_max + 16384) spare (rule.start_front rules []) ask (start_fits rules (limits.unit_max + 16384))
