@@ -4,3 +4,4 @@ mod Counting
 mod Links
 mod Coming
 mod Naming
+pub mod Answered

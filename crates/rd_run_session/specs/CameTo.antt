@@ -20,8 +20,10 @@ pub record CameBy (S : Type 0) {R : Type 0} (g : Grammar) (limits : Limits) (sid
   pub run : Run S R
   pub report : run.report ≡ told.left.report
   pub left_over : run.left_over ≡ told.left.left_over
+  -- what was told, with each pass that the owner may have come to
   pub before : View → Outside
   pub after : View → Outside
+  pub gate : (v : View) → (after v).gate ≡ v
   pub refusals : ℕ
   pub refusals_after : ℕ
   pub ran : RunsBy (rules_on side g limits) before after refusals refusals_after run ends.sinks told.sinks

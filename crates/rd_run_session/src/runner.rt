@@ -1,15 +1,20 @@
-ghost use Rattle.std.specs.Prelude.{◌≡◌, ℕ, ◌≤◌, ◌-◌, ◌^◌, IfOk, IfSome};
+ghost use Rattle.std.specs.Prelude.{◌≡◌, ℕ, ◌≤◌, ◌-◌, ◌^◌, List, Option, IfOk, IfSome, IfNone};
 ghost use Rattle.rd_base.specs.Limits.{AreLimits};
 ghost use Rattle.rd_base.specs.Clocks.{ClockTold, StopperTold};
 ghost use Rattle.rd_dialect.specs.Grammar.{Grammar};
 ghost use Rattle.rd_doors.specs.Visits.{AreFresh, ends_told, run_told};
 ghost use Rattle.rd_runner.specs.Runs.{Setup, Ran};
 ghost use Rattle.rd_runner.specs.Counts.{RunnerTold, Runs, IsAnother, TakesIn};
-ghost use Rattle.rd_run_session.specs.CameTo.{CameBy, CameTo, KeepsMarks};
-ghost use Rattle.rd_run_session.specs.Dialects.{dialect_on};
+ghost use Rattle.rd_lent_book.specs.Lending.{Asked, IsHeard, Lends, TakesBack, Moves, MovesWith, calls_told};
+ghost use Rattle.rd_run_session.specs.Asking.{CameAsking, CameWith};
+ghost use Rattle.rd_run_session.specs.CameTo.{CameTo, KeepsMarks};
+ghost use Rattle.rd_run_session.specs.Dialects.{dialect_on, grammar_of};
 ghost use Rattle.rd_run_session.specs.Counted.{Counted, capped};
+ghost use Rattle.rd_run_session.specs.Holding.{book_held, IsHeld};
 ghost use Rattle.rd_run_session.specs.Left.{summary_of};
+ghost use Rattle.rd_token_map.specs.BookCalls.{BookCall};
 
+use crate::asked_book::{AskedBook, Beginning};
 use crate::left::SessionLeft;
 use rd_base::{Clock, Limits, NameRules, NoMemory, Side, Sink, Source, Stopper};
 use rd_conf::DialectName;
@@ -21,9 +26,8 @@ use rd_pg_tokens::Pg;
 use rd_run::{run_in, run_out, run_unmade};
 use rd_runner::Ended;
 use rd_start::Spawner;
-use rd_token_map::TokenBook;
 use std::alloc::Global;
-use std::marker::Model;
+use std::marker::{Brand, Model};
 use std::sync::Wait;
 use std::thread::Threads;
 
@@ -40,7 +44,7 @@ pub struct SessionRunner<P: Spawner, C: Clock, Q: Stopper, B: LentBook, R: Wait 
     spawner: P,
     clock: C,
     stop: Q,
-    book: B,
+    book: Option<B>,
 }
 
 impl<P: Spawner, C: Clock, Q: Stopper, B: LentBook, R: Wait + Threads + Copy> Model
@@ -52,9 +56,10 @@ impl<P: Spawner, C: Clock, Q: Stopper, B: LentBook, R: Wait + Threads + Copy> Mo
       yeses = (Q.tells r.stop).yeses;
       refusals = capped (P.tells r.spawner).refusals;
       span = (C.tells r.clock).span;
+      book = book_held B.told r.book;
     } };
 
-    ghost invariant = { λ r. AreLimits r.limits × ((Q.tells r.stop).yeses ≤ 2 ^ 64 - 1) };
+    ghost invariant = { λ r. AreLimits r.limits × ((Q.tells r.stop).yeses ≤ 2 ^ 64 - 1) × IsHeld r.book };
 }
 
 fn copy_of(alloc: Global, rules: &NameRules) -> Result<NameRules, NoMemory>
@@ -96,6 +101,7 @@ impl<P: Spawner, C: Clock, Q: Stopper, B: LentBook, R: Wait + Threads + Copy> Se
           yeses = 0;
           refusals = 0;
           span = (C.tells clock).span;
+          book = B.told book;
         } }
     {
         SessionRunner {
@@ -108,12 +114,12 @@ impl<P: Spawner, C: Clock, Q: Stopper, B: LentBook, R: Wait + Threads + Copy> Se
             spawner,
             clock,
             stop,
-            book,
+            book: Some(book),
         }
     }
 
-    /// The spawner, the clock, the stopper and the book that it kept, with what they counted and saw.
-    pub fn into_parts(self) -> (P, C, Q, B)
+    /// The spawner, the clock and the stopper that it kept, with what they counted.
+    pub fn into_parts(self) -> (P, C, Q)
         ensures refusals { capped (P.tells result.0).refusals ≡ self.refusals }
         ensures span { (C.tells result.1).span ≡ self.span }
         ensures yeses { (Q.tells result.2).yeses ≡ self.yeses }
@@ -128,21 +134,22 @@ impl<P: Spawner, C: Clock, Q: Stopper, B: LentBook, R: Wait + Threads + Copy> Se
             spawner,
             clock,
             stop,
-            book,
+            book: _,
         } = self;
-        (spawner, clock, stop, book)
+        (spawner, clock, stop)
     }
 }
 
-/// Runs the session of a visit in this dialect.
+/// Runs the session of a visit in this dialect, and gives its book back.
 fn run_by<
+    J: Beginning,
     D: Dialect,
     S: Source + Send + 'static,
     K: Sink,
     P: Spawner,
     C: Clock,
     Q: Stopper,
-    B: TokenBook,
+    B: LentBook,
     R: Wait + Threads + Copy + Send + Sync + 'static,
 >(
     rt: R,
@@ -154,16 +161,19 @@ fn run_by<
     spawner: &mut P,
     clock: &mut C,
     stop: &mut Q,
-    book: &mut B,
-) -> Ended<S, K, SessionLeft<R>>
+    book: B,
+) -> (Ended<S, K, SessionLeft<R>>, B)
     requires limits { AreLimits limits }
     requires fresh { AreFresh limits.copies (ends_told S.tells K.tells ends) }
     requires yeses { (Q.tells stop.old).yeses ≤ 2 ^ 64 - 1 }
-    ensures came { CameBy S (D.grammar dialect) limits side (ends_told S.tells K.tells ends)
-        (run_told S.tells K.tells ends.number result.run result.sinks.items) }
+    requires began { J.began ≡ B.told book }
+    ensures came { CameAsking S (D.grammar dialect) limits side (ends_told S.tells K.tells ends)
+        (run_told S.tells K.tells ends.number result.0.run result.0.sinks.items)
+        (calls_told (B.told book)) (calls_told (B.told result.1)) }
+    ensures asked { Moves Asked (B.told book) (B.told result.1) }
     ensures marks { KeepsMarks (ends_told S.tells K.tells ends)
-        (run_told S.tells K.tells ends.number result.run result.sinks.items) }
-    ensures counted { Counted (summary_of result.run.left.report)
+        (run_told S.tells K.tells ends.number result.0.run result.0.sinks.items) }
+    ensures counted { Counted (summary_of result.0.run.left.report)
         (C.tells clock.old) (C.tells clock.new) (Q.tells stop.old) (Q.tells stop.new)
         (P.tells spawner.old).refusals (P.tells spawner.new).refusals }
 {
@@ -174,17 +184,17 @@ fn run_by<
     } = ends;
     match side {
         Side::Incoming => {
+            let mut asked = AskedBook::<J, B>::new(book);
             let run = run_in(
-                rt, alloc, dialect, limits, sources, &mut sinks, spawner, clock, stop, book,
+                rt, alloc, dialect, limits, sources, &mut sinks, spawner, clock, stop, &mut asked,
             );
-            ended(run, sinks)
+            (ended(run, sinks), asked.into_book())
         }
         Side::Outgoing => {
-            let _ = book;
             let run = run_out(
                 rt, alloc, dialect, limits, sources, &mut sinks, spawner, clock, stop,
             );
-            ended(run, sinks)
+            (ended(run, sinks), book)
         }
     }
 }
@@ -218,8 +228,9 @@ fn run_none<S: Source, K: Sink, R: Wait + Copy>(
     side: Side,
     ends: Ends<S, K>,
 ) -> Ended<S, K, SessionLeft<R>>
-    ensures came { (g : Grammar) → CameBy S g limits side (ends_told S.tells K.tells ends)
-        (run_told S.tells K.tells ends.number result.run result.sinks.items) }
+    ensures came { (g : Grammar) (book : Option (List BookCall))
+        → CameAsking S g limits side (ends_told S.tells K.tells ends)
+        (run_told S.tells K.tells ends.number result.run result.sinks.items) book book }
     ensures marks { KeepsMarks (ends_told S.tells K.tells ends)
         (run_told S.tells K.tells ends.number result.run result.sinks.items) }
     ensures counted { (clock : ClockTold) (stopper : StopperTold) (refusals : ℕ)
@@ -234,6 +245,61 @@ fn run_none<S: Source, K: Sink, R: Wait + Copy>(
     } = ends;
     let run = run_unmade(alloc, sources, &mut sinks);
     ended(run, sinks)
+}
+
+/// Runs the session of a visit in the dialect of this name, and gives its book back.
+fn run_named<
+    S: Source + Send + 'static,
+    K: Sink,
+    P: Spawner,
+    C: Clock,
+    Q: Stopper,
+    B: LentBook,
+    R: Wait + Threads + Copy + Send + Sync + 'static,
+>(
+    rt: R,
+    alloc: Global,
+    name: DialectName,
+    rules: &NameRules,
+    limits: Limits,
+    side: Side,
+    ends: Ends<S, K>,
+    spawner: &mut P,
+    clock: &mut C,
+    stop: &mut Q,
+    book: B,
+) -> (Ended<S, K, SessionLeft<R>>, B)
+    requires limits { AreLimits limits }
+    requires fresh { AreFresh limits.copies (ends_told S.tells K.tells ends) }
+    requires yeses { (Q.tells stop.old).yeses ≤ 2 ^ 64 - 1 }
+    ensures came { CameAsking S (grammar_of name side rules.now) limits side
+        (ends_told S.tells K.tells ends)
+        (run_told S.tells K.tells ends.number result.0.run result.0.sinks.items)
+        (calls_told (B.told book)) (calls_told (B.told result.1)) }
+    ensures asked { Moves Asked (B.told book) (B.told result.1) }
+    ensures marks { KeepsMarks (ends_told S.tells K.tells ends)
+        (run_told S.tells K.tells ends.number result.0.run result.0.sinks.items) }
+    ensures counted { Counted (summary_of result.0.run.left.report)
+        (C.tells clock.old) (C.tells clock.new) (Q.tells stop.old) (Q.tells stop.new)
+        (P.tells spawner.old).refusals (P.tells spawner.new).refusals }
+{
+    match name {
+        DialectName::Line => run_by::<Brand, Line, S, K, P, C, Q, B, R>(
+            rt, alloc, Line, limits, side, ends, spawner, clock, stop, book,
+        ),
+        DialectName::Http => match Http::new(alloc, side, rules) {
+            Ok(http) => run_by::<Brand, Http, S, K, P, C, Q, B, R>(
+                rt, alloc, http, limits, side, ends, spawner, clock, stop, book,
+            ),
+            Err(_) => (run_none(alloc, limits, side, ends), book),
+        },
+        DialectName::Pg => match Pg::new(alloc, side, rules) {
+            Ok(pg) => run_by::<Brand, Pg, S, K, P, C, Q, B, R>(
+                rt, alloc, pg, limits, side, ends, spawner, clock, stop, book,
+            ),
+            Err(_) => (run_none(alloc, limits, side, ends), book),
+        },
+    }
 }
 
 /// Runs the session of a visit to its end, in the dialect that the settings name for its side. It stands apart from the
@@ -256,6 +322,10 @@ pub fn run_visit<
     ensures ran { Ran (CameTo S) runner.old.setup side (ends_told S.tells K.tells ends)
         (run_told S.tells K.tells ends.number result.run result.sinks.items) }
     ensures counts { Runs (summary_of result.run.left.report) runner.old runner.new }
+    ensures came { CameWith S runner.old.setup side (ends_told S.tells K.tells ends)
+        (run_told S.tells K.tells ends.number result.run result.sinks.items)
+        (calls_told runner.old.book) (calls_told runner.new.book) }
+    ensures asked { Moves Asked runner.old.book runner.new.book }
 {
     let SessionRunner {
         rt,
@@ -269,33 +339,15 @@ pub fn run_visit<
         stop,
         book,
     } = runner;
-    match dialect_on(side, *incoming, *outgoing) {
-        DialectName::Line => {
-            return run_by(
-                *rt, alloc, Line, *limits, side, ends, spawner, clock, stop, book,
-            );
-        }
-        DialectName::Http => match Http::new(alloc, side, rules) {
-            Ok(http) => {
-                return run_by(
-                    *rt, alloc, http, *limits, side, ends, spawner, clock, stop, book,
-                );
-            }
-            Err(_) => {
-                return run_none(alloc, *limits, side, ends);
-            }
-        },
-        DialectName::Pg => match Pg::new(alloc, side, rules) {
-            Ok(pg) => {
-                return run_by(
-                    *rt, alloc, pg, *limits, side, ends, spawner, clock, stop, book,
-                );
-            }
-            Err(_) => {
-                return run_none(alloc, *limits, side, ends);
-            }
-        },
-    }
+    let Some(lent) = book.take() else {
+        unreachable!()
+    };
+    let name = dialect_on(side, *incoming, *outgoing);
+    let (ended, back) = run_named(
+        *rt, alloc, name, rules, *limits, side, ends, spawner, clock, stop, lent,
+    );
+    *book = Some(back);
+    ended
 }
 
 /// The dialect in which it runs sessions of this side.
@@ -326,7 +378,10 @@ pub fn another_runner<P: Spawner, C: Clock, Q: Stopper, B: LentBook, R: Wait + T
     runner: &mut SessionRunner<P, C, Q, B, R>,
 ) -> Option<SessionRunner<P, C, Q, B, R>>
     ensures other { IfSome result (λ other. IsAnother runner.old other) }
-    ensures same { runner.new ≡ runner.old }
+    ensures same { runner.new ≡ record runner.old { book = runner.new.book } }
+    ensures lent { IfSome result (λ other. MovesWith Lends
+        runner.old.book other.book runner.new.book) }
+    ensures none { IfNone result (runner.new ≡ runner.old) }
 {
     let SessionRunner {
         rt,
@@ -341,7 +396,8 @@ pub fn another_runner<P: Spawner, C: Clock, Q: Stopper, B: LentBook, R: Wait + T
         book,
     } = runner;
     let rules = copy_of(*alloc, rules).ok()?;
-    let book = book.another()?;
+    let Some(own) = book else { unreachable!() };
+    let book = own.another()?;
     Some(SessionRunner::new(
         *rt,
         *alloc,
@@ -361,7 +417,8 @@ pub fn take_in_runner<P: Spawner, C: Clock, Q: Stopper, B: LentBook, R: Wait + T
     runner: &mut SessionRunner<P, C, Q, B, R>,
     other: SessionRunner<P, C, Q, B, R>,
 )
-    ensures { TakesIn other runner.old runner.new }
+    ensures counts { TakesIn other runner.old runner.new }
+    ensures back { MovesWith TakesBack runner.old.book other.book runner.new.book }
 {
     let SessionRunner {
         rt: _,
@@ -390,5 +447,32 @@ pub fn take_in_runner<P: Spawner, C: Clock, Q: Stopper, B: LentBook, R: Wait + T
     spawner.join_in(their_spawner);
     clock.join_in(their_clock);
     stop.join_in(their_stop);
-    book.join_in(their_book);
+    let Some(own) = book else { unreachable!() };
+    let Some(back) = their_book else {
+        unreachable!()
+    };
+    own.join_in(back);
+}
+
+/// Has each book that it may lend heed its own, once no more sessions come.
+pub fn end_lending<P: Spawner, C: Clock, Q: Stopper, B: LentBook, R: Wait + Threads + Copy>(
+    runner: &mut SessionRunner<P, C, Q, B, R>,
+)
+    ensures same { runner.new ≡ record runner.old { book = runner.new.book } }
+    ensures heard { IfSome runner.old.book IsHeard }
+{
+    let SessionRunner {
+        rt: _,
+        alloc: _,
+        limits: _,
+        incoming: _,
+        outgoing: _,
+        rules: _,
+        spawner: _,
+        clock: _,
+        stop: _,
+        book,
+    } = runner;
+    let Some(own) = book else { unreachable!() };
+    own.be_heeded();
 }

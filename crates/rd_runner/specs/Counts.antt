@@ -1,18 +1,20 @@
 -- The counts and the span of who runs sessions.
-use Rattle.std.specs.Prelude.{◌≡◌, ℕ, ◌+◌, ◌-◌, ◌^◌, ◌≤◌, ◌⊎◌, max}
+use Rattle.std.specs.Prelude.{◌≡◌, ℕ, ◌+◌, ◌-◌, ◌^◌, ◌≤◌, ◌⊎◌, max, Option}
 use Rattle.rd_base.specs.Counts.{sum_counted}
 use Rattle.rd_base.specs.declared.values.Ending.{Ending}
 use Rattle.rd_base.specs.declared.values.Ending.TheVariants.{Late, Stopped, Unstarted}
+use Rattle.rd_lent_book.specs.Lending.{BookView}
 use Rattle.rd_runner.specs.declared.session.Summary.{Summary}
 use Rattle.rd_runner.specs.Runs.{Setup}
 
 -- what it holds sessions to, how often it said yes to one that asked whether to stop, how many starts of readers were
--- refused, and the greatest difference of two answers of one of its clocks
+-- refused, the greatest difference of two answers of one of its clocks, and its book, where that tells
 pub record RunnerTold : Type 0 where
   pub setup : Setup
   pub yeses : ℕ
   pub refusals : ℕ
   pub span : ℕ
+  pub book : Option BookView
 
 -- 1 for Stopped
 abbrev pub stopped : Ending → ℕ

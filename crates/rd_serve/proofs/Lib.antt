@@ -6,3 +6,4 @@ pub mod Visits
 pub mod Noting
 pub mod Answering
 pub mod Live
+mod Booking

@@ -5,3 +5,5 @@ pub mod Crossing
 pub mod Notes
 pub mod Operators
 pub mod Noting
+pub mod Books
+pub mod Booking

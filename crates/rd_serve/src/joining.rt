@@ -1,7 +1,9 @@
-ghost use Rattle.std.specs.Prelude.{◌≡◌, ◌+◌, ◌<◌, [], List, Some, None, false, length, IfSome, vec_len};
+ghost use Rattle.std.specs.Prelude.{◌≡◌, ◌+◌, ◌<◌, [], ◌∷◌, List, Option, Some, None, false, length, IfSome, vec_len};
 ghost use Rattle.rd_doors.specs.Visits.{Entry, Gave, CameBack, AreFresh, Holds, without, entries_with, ends_told, run_told};
 ghost use Rattle.rd_runner.specs.Runs.{Ran};
 ghost use Rattle.rd_run_session.specs.CameTo.{CameTo};
+ghost use Rattle.rd_lent_book.specs.Lending.{BookView};
+ghost use Rattle.rd_serve.specs.Booking.{AreBooked, KeepsBook, Lent, lents};
 ghost use Rattle.rd_run_session.specs.declared.left.SessionLeft.{SessionLeft};
 ghost use Rattle.rd_serve.specs.Serving.{Tells, Has};
 ghost use Rattle.rd_serve.specs.Counting.{CountedBy};
@@ -140,6 +142,19 @@ pub fn give_back<
     ensures out { (E.tells doors.new).out ≡ without number (E.tells doors.old).out }
     ensures keeps { KeepsTold (E.tells doors.old) (E.tells doors.new) }
     ensures over { (E.tells doors.new).is_over ≡ (E.tells doors.old).is_over }
+    ensures books { (lent : Option BookView) (rest : List Lent)
+        → KeepsBook E.Give first.now.value.setup side
+        (ends_told E.Give.tells E.Take.tells ends.value)
+        (run_told E.Give.tells E.Take.tells ends.value.number
+        served.ended.run served.ended.sinks.items) lent served.runner.book
+        → AreBooked E.Give first.now.value.setup first.now.value.book (E.tells doors.old)
+        runner.old.book (record {
+          side = side;
+          ends = ends_told E.Give.tells E.Take.tells ends.value;
+          book = lent;
+        } ∷ rest)
+        → AreBooked E.Give first.now.value.setup first.now.value.book (E.tells doors.new)
+        runner.new.book rest }
     ensures ids { desk.new.ids ≡ without_id begun.id desk.old.ids }
     ensures notes { Answering (NotesRun first.now.value.setup
         (E.tells doors.old) (E.tells doors.new) begun side
@@ -182,6 +197,9 @@ pub fn join_at<
         (E.tells doors.old) waiting sessions.old.items }
     requires place { place < length sessions.old.items }
     requires room { HasRoom sessions.old flags.old }
+    requires books { AreBooked E.Give first.now.value.setup first.now.value.book
+        (E.tells doors.old) runner.old.book
+        (lents E.Give.tells E.Take.tells sessions.old.items) }
     requires live { AreLive desk.old.ids sessions.old.items }
     ensures tells { Tells (CameTo E.Give) first.now.value.setup (E.tells doors.new) }
     ensures counts { CountedBy first.now.value
@@ -190,6 +208,9 @@ pub fn join_at<
         (E.tells doors.new) waiting sessions.new.items }
     ensures keeps { KeepsTold (E.tells doors.old) (E.tells doors.new) }
     ensures over { (E.tells doors.new).is_over ≡ (E.tells doors.old).is_over }
+    ensures books { AreBooked E.Give first.now.value.setup first.now.value.book
+        (E.tells doors.new) runner.new.book
+        (lents E.Give.tells E.Take.tells sessions.new.items) }
     ensures live { AreLive desk.new.ids sessions.new.items }
     ensures notes { Answering (NotesStay first.now.value.setup
         (E.tells doors.old) (E.tells doors.new) E.Give.tells E.Take.tells
@@ -257,6 +278,9 @@ pub fn join_ended<
     requires out { AreOut E.Give.tells E.Take.tells first.now.value.setup
         (E.tells doors.old) waiting sessions.old.items }
     requires room { HasRoom sessions.old flags.old }
+    requires books { AreBooked E.Give first.now.value.setup first.now.value.book
+        (E.tells doors.old) runner.old.book
+        (lents E.Give.tells E.Take.tells sessions.old.items) }
     requires live { AreLive desk.old.ids sessions.old.items }
     ensures tells { Tells (CameTo E.Give) first.now.value.setup (E.tells doors.new) }
     ensures counts { CountedBy first.now.value
@@ -265,6 +289,9 @@ pub fn join_ended<
         (E.tells doors.new) waiting sessions.new.items }
     ensures keeps { KeepsTold (E.tells doors.old) (E.tells doors.new) }
     ensures over { (E.tells doors.new).is_over ≡ (E.tells doors.old).is_over }
+    ensures books { AreBooked E.Give first.now.value.setup first.now.value.book
+        (E.tells doors.new) runner.new.book
+        (lents E.Give.tells E.Take.tells sessions.new.items) }
     ensures live { AreLive desk.new.ids sessions.new.items }
     ensures notes { Answering (NotesStay first.now.value.setup
         (E.tells doors.old) (E.tells doors.new) E.Give.tells E.Take.tells
@@ -306,12 +333,17 @@ pub fn join_all<
     requires out { AreOut E.Give.tells E.Take.tells first.now.value.setup
         (E.tells doors.old) None sessions.old.items }
     requires room { HasRoom sessions.old flags.old }
+    requires books { AreBooked E.Give first.now.value.setup first.now.value.book
+        (E.tells doors.old) runner.old.book
+        (lents E.Give.tells E.Take.tells sessions.old.items) }
     requires live { AreLive desk.old.ids sessions.old.items }
     ensures tells { Tells (CameTo E.Give) first.now.value.setup (E.tells doors.new) }
     ensures counts { CountedBy first.now.value
         runner.new (E.tells doors.new) }
     ensures out { (E.tells doors.new).out ≡ [] }
     ensures over { (E.tells doors.new).is_over ≡ (E.tells doors.old).is_over }
+    ensures books { AreBooked E.Give first.now.value.setup first.now.value.book
+        (E.tells doors.new) runner.new.book [] }
     ensures live { AreLive desk.new.ids sessions.new.items }
     ensures notes { Answering (NotesStay first.now.value.setup
         (E.tells doors.old) (E.tells doors.new) E.Give.tells E.Take.tells

@@ -1,7 +1,10 @@
-ghost use Rattle.std.specs.Prelude.{◌≡◌, ℕ, ◌+◌, ◌<◌, ◌≤◌, [], List, Some, None, true, false, length, IfOk, IfSome, OnOk, Err, vec_len, vec_capacity};
+ghost use Rattle.std.specs.Prelude.{◌≡◌, ℕ, ◌+◌, ◌<◌, ◌≤◌, [], List, Some, None, true, false, length, IfOk, IfSome, IfNone, OnOk, Err, vec_len, vec_capacity};
 ghost use Rattle.rd_doors.specs.Visits.{Entry, Gave, TurnedAway, AreFresh, Holds, without, entries_with, ends_told};
-ghost use Rattle.rd_runner.specs.Counts.{RoseBy};
+ghost use Rattle.rd_runner.specs.Counts.{IsAnother, RoseBy};
 ghost use Rattle.rd_run_session.specs.CameTo.{CameTo};
+ghost use Rattle.rd_lent_book.specs.Lending.{Lends, MovesWith, new_book};
+ghost use Rattle.rd_serve.specs.Booking.{AreBooked, Lent, lents};
+ghost use Rattle.rd_serve.specs.Books.{ServedBook};
 ghost use Rattle.rd_run_session.specs.declared.left.SessionLeft.{SessionLeft};
 ghost use Rattle.rd_serve.specs.Serving.{Tells, IsServed, Has, times_given, times_ended};
 ghost use Rattle.rd_serve.specs.Counting.{CountedBy, EachRun, IsWithin, times_stopped, times_unstarted};
@@ -21,7 +24,7 @@ use rd_doors::{Doors, Ends, Visit};
 use rd_keeper::{KeepFail, Keeper};
 use rd_lent_book::LentBook;
 use rd_operator::operator_once;
-use rd_run_session::{SessionLeft, SessionRunner, another_runner, run_visit};
+use rd_run_session::{SessionLeft, SessionRunner, another_runner, end_lending, run_visit};
 use rd_start::Spawner;
 use std::alloc::Global;
 use std::snapshot::Snapshot;
@@ -100,6 +103,11 @@ fn serve_here<
     ensures out { (E.tells doors.new).out ≡ without ends.number (E.tells doors.old).out }
     ensures keeps { KeepsTold (E.tells doors.old) (E.tells doors.new) }
     ensures over { (E.tells doors.new).is_over ≡ (E.tells doors.old).is_over }
+    ensures books { (rest : List Lent)
+        → AreBooked E.Give first.now.value.setup first.now.value.book (E.tells doors.old)
+        runner.old.book rest
+        → AreBooked E.Give first.now.value.setup first.now.value.book (E.tells doors.new)
+        runner.new.book rest }
     ensures ids { desk.new.ids ≡ without_id begun.id desk.old.ids }
     ensures notes { Answering (NotesRun first.now.value.setup
         (E.tells doors.old) (E.tells doors.new) begun side
@@ -111,6 +119,27 @@ fn serve_here<
     let ended = run_visit(runner, alloc, side, ends);
     let _ended_at = note_run(desk, clock, runner, begun, side, &ended);
     hand_back(doors, first, side, handed, number, ended);
+}
+
+/// What a session on a thread of its own is lent: a runner, and its flag. None where either can't be had, and then nothing
+/// is lent.
+fn lend<P: Spawner, C: Clock, T: Stopper, B: LentBook, R: Wait + Threads + Copy>(
+    runner: &mut SessionRunner<P, C, T, B, R>,
+    flag: &Arc<AtomicBool, Global>,
+) -> Option<(SessionRunner<P, C, T, B, R>, Arc<AtomicBool, Global>)>
+    ensures other { IfSome result (λ both. IsAnother runner.old both.0) }
+    ensures same { runner.new ≡ record runner.old { book = runner.new.book } }
+    ensures lent { IfSome result (λ both. MovesWith Lends
+        runner.old.book both.0.book runner.new.book) }
+    ensures none { IfNone result (runner.new ≡ runner.old) }
+{
+    let Ok(shared) = Arc::try_clone(flag) else {
+        return None;
+    };
+    match another_runner(runner) {
+        Some(theirs) => Some((theirs, shared)),
+        None => None,
+    }
 }
 
 /// Begins the session of a visit, on a thread of its own where one can be had.
@@ -148,6 +177,9 @@ fn admit<
     requires count { vec_len sessions.old + vec_len flags.old ≡ 31 }
     requires sessions_room { 32 ≤ vec_capacity sessions.old }
     requires flags_room { 32 ≤ vec_capacity flags.old }
+    requires books { AreBooked E.Give first.now.value.setup first.now.value.book
+        (E.tells doors.old) runner.old.book
+        (lents E.Give.tells E.Take.tells sessions.old.items) }
     requires live { AreLive desk.old.ids sessions.old.items }
     ensures tells { Tells (CameTo E.Give) first.now.value.setup (E.tells doors.new) }
     ensures counts { CountedBy first.now.value
@@ -156,6 +188,9 @@ fn admit<
         (E.tells doors.new) None sessions.new.items }
     ensures over { (E.tells doors.new).is_over ≡ (E.tells doors.old).is_over }
     ensures room { HasRoom sessions.new flags.new }
+    ensures books { AreBooked E.Give first.now.value.setup first.now.value.book
+        (E.tells doors.new) runner.new.book
+        (lents E.Give.tells E.Take.tells sessions.new.items) }
     ensures live { AreLive desk.new.ids sessions.new.items }
     ensures notes { Answering (NotesVisit first.now.value.setup
         (E.tells doors.old) (E.tells doors.new) E.Give.tells E.Take.tells
@@ -164,7 +199,7 @@ fn admit<
         (C.tells clock.old) (C.tells clock.new) }
 {
     let begun = begin_session(desk, clock);
-    let (Some(theirs), Ok(shared)) = (another_runner(runner), Arc::try_clone(&flag)) else {
+    let Some((theirs, shared)) = lend(runner, &flag) else {
         flags.push_reserved(flag);
         serve_here(alloc, doors, runner, first, side, ends, begun, desk, clock);
         return;
@@ -222,6 +257,9 @@ fn take_in<
         → (E.tells doors.old).told ≡ Some told
         → Has (Gave side (ends_told E.Give.tells E.Take.tells ends)) told }
     requires room { HasRoom sessions.old flags.old }
+    requires books { AreBooked E.Give first.now.value.setup first.now.value.book
+        (E.tells doors.old) runner.old.book
+        (lents E.Give.tells E.Take.tells sessions.old.items) }
     requires live { AreLive desk.old.ids sessions.old.items }
     ensures tells { Tells (CameTo E.Give) first.now.value.setup (E.tells doors.new) }
     ensures counts { CountedBy first.now.value
@@ -230,6 +268,9 @@ fn take_in<
         (E.tells doors.new) None sessions.new.items }
     ensures over { (E.tells doors.new).is_over ≡ (E.tells doors.old).is_over }
     ensures room { HasRoom sessions.new flags.new }
+    ensures books { AreBooked E.Give first.now.value.setup first.now.value.book
+        (E.tells doors.new) runner.new.book
+        (lents E.Give.tells E.Take.tells sessions.new.items) }
     ensures live { AreLive desk.new.ids sessions.new.items }
     ensures notes { Answering (NotesVisit first.now.value.setup
         (E.tells doors.old) (E.tells doors.new) E.Give.tells E.Take.tells
@@ -278,6 +319,9 @@ fn receive<
         → (E.tells doors.old).told ≡ Some told
         → Has (Gave side (ends_told E.Give.tells E.Take.tells ends)) told }
     requires room { HasRoom sessions.old flags.old }
+    requires books { AreBooked E.Give first.now.value.setup first.now.value.book
+        (E.tells doors.old) runner.old.book
+        (lents E.Give.tells E.Take.tells sessions.old.items) }
     requires live { AreLive desk.old.ids sessions.old.items }
     ensures tells { Tells (CameTo E.Give) first.now.value.setup (E.tells doors.new) }
     ensures counts { CountedBy first.now.value
@@ -286,6 +330,9 @@ fn receive<
         (E.tells doors.new) None sessions.new.items }
     ensures over { (E.tells doors.new).is_over ≡ (E.tells doors.old).is_over }
     ensures room { HasRoom sessions.new flags.new }
+    ensures books { AreBooked E.Give first.now.value.setup first.now.value.book
+        (E.tells doors.new) runner.new.book
+        (lents E.Give.tells E.Take.tells sessions.new.items) }
     ensures live { AreLive desk.new.ids sessions.new.items }
     ensures notes { Answering (NotesVisit first.now.value.setup
         (E.tells doors.old) (E.tells doors.new) E.Give.tells E.Take.tells
@@ -350,6 +397,9 @@ fn serve_visit<
     requires out { AreOut E.Give.tells E.Take.tells first.now.value.setup
         (E.tells doors.old) None sessions.old.items }
     requires room { HasRoom sessions.old flags.old }
+    requires books { AreBooked E.Give first.now.value.setup first.now.value.book
+        (E.tells doors.old) runner.old.book
+        (lents E.Give.tells E.Take.tells sessions.old.items) }
     requires live { AreLive desk.old.ids sessions.old.items }
     ensures tells { Tells (CameTo E.Give) first.now.value.setup (E.tells doors.new) }
     ensures counts { CountedBy first.now.value
@@ -358,6 +408,9 @@ fn serve_visit<
         (E.tells doors.new) None sessions.new.items }
     ensures over { result ≡ true → (E.tells doors.new).is_over ≡ true }
     ensures room { HasRoom sessions.new flags.new }
+    ensures books { AreBooked E.Give first.now.value.setup first.now.value.book
+        (E.tells doors.new) runner.new.book
+        (lents E.Give.tells E.Take.tells sessions.new.items) }
     ensures live { AreLive desk.new.ids sessions.new.items }
     ensures notes { Answering (NotesServe first.now.value.setup
         (E.tells doors.old) (E.tells doors.new) E.Give.tells E.Take.tells
@@ -436,6 +489,9 @@ fn serve_visits<
     requires out { AreOut E.Give.tells E.Take.tells first.now.value.setup
         (E.tells doors.old) None sessions.old.items }
     requires room { HasRoom sessions.old flags.old }
+    requires books { AreBooked E.Give first.now.value.setup first.now.value.book
+        (E.tells doors.old) runner.old.book
+        (lents E.Give.tells E.Take.tells sessions.old.items) }
     requires live { AreLive desk.old.ids sessions.old.items }
     ensures tells { Tells (CameTo E.Give) first.now.value.setup (E.tells doors.new) }
     ensures counts { CountedBy first.now.value
@@ -444,6 +500,9 @@ fn serve_visits<
         (E.tells doors.new) None sessions.new.items }
     ensures over { (E.tells doors.new).is_over ≡ true }
     ensures room { HasRoom sessions.new flags.new }
+    ensures books { AreBooked E.Give first.now.value.setup first.now.value.book
+        (E.tells doors.new) runner.new.book
+        (lents E.Give.tells E.Take.tells sessions.new.items) }
     ensures live { AreLive desk.new.ids sessions.new.items }
     ensures notes { Answering (NotesServe first.now.value.setup
         (E.tells doors.old) (E.tells doors.new) E.Give.tells E.Take.tells
@@ -523,6 +582,9 @@ pub fn serve<
         → IsAt start [] desk (Y.tells keeper.old) → (E.tells doors.new).told ≡ Some told
         → Answering (λ asked. NotesAndAnswers runner.old.setup start asked told
         (Y.tells keeper.new)) (C.tells clock.old) (C.tells clock.new)) }
+    ensures book { OnOk result ((others : ℕ) (told : List (Entry (SessionLeft R)))
+        → runner.old.book ≡ Some (new_book others) → (E.tells doors.new).told ≡ Some told
+        → ServedBook E.Give runner.old.setup told) }
     ensures four { result ≡ Err KeepFail.Failed
         → Rose (Y.tells keeper.old).faults (Y.tells keeper.new).faults }
     ensures over { OnOk result ((E.tells doors.new).is_over ≡ true) }
@@ -556,5 +618,6 @@ pub fn serve<
         &mut desk,
         clock,
     );
+    end_lending(runner);
     desk.keep_all(keeper)
 }

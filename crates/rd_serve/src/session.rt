@@ -1,7 +1,8 @@
 ghost use Rattle.std.specs.Prelude.{◌≡◌, IfOk, IfErr};
-ghost use Rattle.rd_doors.specs.Visits.{AreFresh, ends_told};
+ghost use Rattle.rd_doors.specs.Visits.{AreFresh, ends_told, run_told};
 ghost use Rattle.std.specs.Thread.{IsSync};
 ghost use Rattle.rd_serve.specs.Crossing.{Crosses};
+ghost use Rattle.rd_serve.specs.Booking.{KeepsBook};
 ghost use Rattle.rd_serve.specs.Sessions.{Keeps};
 
 use rd_base::{Clock, Side, Sink, Source, Stopper};
@@ -46,7 +47,10 @@ impl<
     R: Wait + Threads + Copy + Send + Sync + 'static,
 > Promise<Served<S, K, P, C, T, B, R>> for Handed<S, K, P, C, T, B, R> {
     ghost kept_by = { λ p r. Keeps S.tells K.tells
-        p.runner.value.setup p.side p.ends.value r };
+        p.runner.value.setup p.side p.ends.value r
+        × KeepsBook S p.runner.value.setup p.side (ends_told S.tells K.tells p.ends.value)
+        (run_told S.tells K.tells p.ends.value.number r.ended.run r.ended.sinks.items)
+        p.runner.value.book r.runner.book };
 }
 
 /// A session on a thread of its own, which sets the flag as its last act.
@@ -103,7 +107,10 @@ fn run_and_tell<
     requires yeses { job.runner.yeses ≡ 0 }
     requires refusals { job.runner.refusals ≡ 0 }
     requires fresh { AreFresh job.runner.setup.limits.copies (ends_told S.tells K.tells job.ends) }
-    ensures { Keeps S.tells K.tells job.runner.setup job.side job.ends result }
+    ensures { Keeps S.tells K.tells job.runner.setup job.side job.ends result
+        × KeepsBook S job.runner.setup job.side (ends_told S.tells K.tells job.ends)
+        (run_told S.tells K.tells job.ends.number result.ended.run result.ended.sinks.items)
+        job.runner.book result.runner.book }
 {
     let Job {
         alloc,
@@ -170,7 +177,10 @@ pub fn begin<
     ensures side { IfOk result (λ h. h.promise.side ≡ side) }
     ensures ends { IfOk result (λ h. h.promise.ends.value ≡ ends) }
     ensures here { IfErr result (λ served. Keeps S.tells K.tells
-        runner.setup side ends served) }
+        runner.setup side ends served
+        × KeepsBook S runner.setup side (ends_told S.tells K.tells ends)
+        (run_told S.tells K.tells ends.number served.ended.run served.ended.sinks.items)
+        runner.book served.runner.book) }
 {
     let handed = Handed {
         runner: Snapshot::of(&runner),

@@ -10,7 +10,7 @@ use Rattle.rd_base.specs.History.{Row}
 use Rattle.rd_base.specs.OwnRows.{learn_row}
 use Rattle.rd_history.specs.declared.learn.Learn.{Learn}
 use Rattle.rd_history.specs.Learns.{entry, is_of, of_seat, with_row, learns_by, AreBelow}
-use Rattle.rd_shared_book.specs.Books.{book_after}
+use Rattle.rd_lent_book.specs.Books.{book_after}
 
 -- ---- the book
 

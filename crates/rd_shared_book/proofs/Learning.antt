@@ -8,7 +8,8 @@ use Rattle.rd_base.specs.OwnRows.{learn_row, shown_of}
 use Rattle.rd_base.specs.Swap.{shows}
 use Rattle.rd_history.specs.declared.learn.Learn.{Learn}
 use Rattle.rd_history.specs.Learns.{entry, of_seat, AreBelow}
-use Rattle.rd_shared_book.specs.Books.{book_after, AreCounts, IsBook, EndsIn}
+use Rattle.rd_lent_book.specs.Books.{book_after}
+use Rattle.rd_shared_book.specs.Books.{AreCounts, IsBook, EndsIn}
 use Rattle.rd_shared_book.proofs.Appended.{book_after-more, below-more, ends_alike}
 use Rattle.rd_shared_book.proofs.Counting.{counts-more}
 

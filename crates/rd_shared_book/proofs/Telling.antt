@@ -7,7 +7,7 @@ use Rattle.rd_base.specs.Swap.{shows}
 use Rattle.rd_history.proofs.Beginnings.{prefix_trans}
 use Rattle.rd_history.specs.declared.learn.Learn.{Learn}
 use Rattle.rd_history.specs.Learns.{entry, of_seat, learns_by, AreBelow}
-use Rattle.rd_shared_book.specs.Seats.{SeatView, learned, HoldsOwn, IsFresh, new_seat, new_seats}
+use Rattle.rd_lent_book.specs.Seats.{SeatView, learned, HoldsOwn, IsFresh, new_seat, new_seats}
 use Rattle.rd_shared_book.proofs.Appended.{of_seat-own, of_seat-same, learns_by-more, length-learns_by, below-more}
 use Rattle.rd_shared_book.proofs.Learning.{find_passes}
 

@@ -1,18 +1,9 @@
--- The book after a list of learns.
-use Rattle.std.specs.Prelude.{◌≡◌, ◌<◌, ℕ, ◌+◌, ◌==◌, cond, List, [], ◌∷◌, ◌++◌, length, map, fold, slice_get, Some, Option, find}
+-- What a copy of the book keeps, by the list of learns that it stands for.
+use Rattle.std.specs.Prelude.{◌≡◌, ◌<◌, ℕ, ◌+◌, ◌==◌, cond, List, [], ◌∷◌, ◌++◌, length, slice_get, Some}
 use Rattle.rd_base.specs.History.{Row}
-use Rattle.rd_base.specs.OwnRows.{learn_row}
-use Rattle.rd_base.specs.Swap.{shows}
 use Rattle.rd_history.specs.declared.learn.Learn.{Learn}
 use Rattle.rd_history.specs.Learns.{entry, of_seat, AreBelow}
-
--- its rows, the newest first, one per shown word, the first 4,096
-abbrev pub book_after : List Learn → List Row
-book_after learns = fold (learn_row 4096) [] (map (λ learn. learn.row) learns)
-
--- the first of its rows that shows the word
-abbrev pub found : List ℕ → List Learn → Option Row
-found word learns = find (shows word) (book_after learns)
+use Rattle.rd_lent_book.specs.Books.{book_after}
 
 -- for each seat the number of its learns
 pub record AreCounts (seats : ℕ) (counts : List ℕ) (learns : List Learn) : Type 0 where

@@ -1,5 +1,5 @@
 ghost use Rattle.std.specs.Prelude.{◌≡◌, ◌≤◌, ◌++◌, ◌∷◌, [], IfOk, MatchOption};
-ghost use Rattle.rd_shared_book.specs.Seats.{SeatView, new_seats};
+ghost use Rattle.rd_lent_book.specs.Seats.{SeatView, new_seats};
 
 use crate::desk::Desk;
 use crate::known::Known;
@@ -20,7 +20,7 @@ pub struct Book<J: Naming, R: Wait + Copy> {
 
 impl<J: Naming, R: Wait + Copy> Model for Book<J, R> {
     ghost use Rattle.std.specs.Prelude.{List};
-    ghost use Rattle.rd_shared_book.specs.Seats.{SeatView};
+    ghost use Rattle.rd_lent_book.specs.Seats.{SeatView};
 
     ghost Value = { List SeatView };
 

@@ -2,7 +2,7 @@ ghost use Rattle.std.specs.Prelude.{◌≡◌, ◌<◌, ◌^◌, ◌++◌, ◌�
 ghost use mathlib.Core.List.{IsPrefix};
 ghost use Rattle.rd_token_map.specs.BookCalls.{BookCall, Found, Learned};
 ghost use Rattle.rd_shared_book.specs.Books.{EndsIn};
-ghost use Rattle.rd_shared_book.specs.Seats.{SeatView, IsFresh, HoldsOwn, new_seat};
+ghost use Rattle.rd_lent_book.specs.Seats.{SeatView, IsFresh, HoldsOwn, new_seat};
 
 use crate::shelf::Shelf;
 use rd_base::Row;
@@ -24,7 +24,7 @@ pub(crate) struct Known<J: Naming> {
 
 impl<J: Naming> Model for Known<J> {
     ghost use Rattle.std.specs.Prelude.{◌≡◌, length};
-    ghost use Rattle.rd_shared_book.specs.Seats.{SeatView, HoldsOwn, learned};
+    ghost use Rattle.rd_lent_book.specs.Seats.{SeatView, HoldsOwn, learned};
 
     ghost Value = { SeatView };
 

@@ -1,8 +1,8 @@
 ghost use Rattle.std.specs.Prelude.{◌≡◌, ◌++◌, ◌∷◌, [], Some, IfSome, IfNone, IfOk, OnOk, OnErr};
 ghost use mathlib.Core.List.{IsPrefix};
 ghost use Rattle.rd_token_map.specs.BookCalls.{Learns as TellsLearn, Finds};
-ghost use Rattle.rd_shared_book.specs.Books.{found};
-ghost use Rattle.rd_shared_book.specs.Seats.{SeatView, IsFresh, HoldsOwn};
+ghost use Rattle.rd_lent_book.specs.Books.{found};
+ghost use Rattle.rd_lent_book.specs.Seats.{SeatView, IsFresh, HoldsOwn};
 
 use crate::desk::Desk;
 use crate::keyed_row::KeyedRow;
@@ -30,7 +30,7 @@ pub struct Seat<T: Absorb<O> + Drop, O: Drop, J: Naming, R: Wait + Copy> {
 pub type BookSeat<J, R> = Seat<Shelf<J>, Addition<J>, J, R>;
 
 impl<T: Absorb<O> + Drop, O: Drop, J: Naming, R: Wait + Copy> Model for Seat<T, O, J, R> {
-    ghost use Rattle.rd_shared_book.specs.Seats.{SeatView};
+    ghost use Rattle.rd_lent_book.specs.Seats.{SeatView};
 
     ghost Value = { SeatView };
 

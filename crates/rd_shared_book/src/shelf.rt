@@ -1,6 +1,7 @@
 ghost use Rattle.std.specs.Prelude.{◌≡◌, ◌≤◌, ◌<◌, ◌==◌, [], ◌∷◌, ◌++◌, length, IfOk, OnOk, OnErr, slice_get, Some, unwrap_or};
 ghost use Rattle.rd_history.specs.Learns.{of_seat, AreBelow};
-ghost use Rattle.rd_shared_book.specs.Books.{EndsIn, follow, found};
+ghost use Rattle.rd_lent_book.specs.Books.{found};
+ghost use Rattle.rd_shared_book.specs.Books.{EndsIn, follow};
 
 use crate::book_rows::BookRows;
 use crate::keyed_row::KeyedRow;

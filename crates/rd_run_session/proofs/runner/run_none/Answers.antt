@@ -11,21 +11,25 @@ use Rattle.rd_run_session.specs.Counted.{Counted}
 use Rattle.rd_run_session.proofs.Counting.{runs_counted}
 use Rattle.rd_run.specs.Whole.{may_stay, taken_in, rules_on}
 use Rattle.rd_run_session.proofs.Coming.{came_by, nothing_told}
+use Rattle.rd_run_session.proofs.Answered.{asks_nothing, book_alone}
 use Rattle.rd_run_session.proofs.Links.{sinks_marked, sources_marked}
 use Rattle.rd_run_session.proofs.runner.run_none.Goals as goal
 
 pub returns-clause-came : goal.returns-clause-came
-returns-clause-came g c = λ grammar.
+returns-clause-came g c = λ grammar book.
     let limits = c.args.limits in
     let side = c.args.side in
     let run = c.run_unmade-run in
-    let asks : View → Outside = nothing_told in
-    came_by grammar limits side side refl (ends_told g.S.Source.tells g.K.Sink.tells c.args.ends)
-    (run_told g.S.Source.tells g.K.Sink.tells c.args.ends.number c.ended.result.run c.ended.result.sinks.items)
-    run.result asks asks 0 0 (map g.K.Sink.tells run.new.sinks.items) (map g.S.Source.tells run.result.sources.items)
-    c.ended.ensures.report c.ended.ensures.left_over
-    (ap (λ v. map g.K.Sink.tells v.items) c.ended.ensures.sinks) (ap (λ v. map g.S.Source.tells v.items) c.ended.ensures.sources)
-    (run.ensures.run (rules_on side grammar limits) asks 0) run.ensures.sources
+    let asks : View → Outside = book_alone book in
+    record {
+      came = came_by grammar limits side side refl (ends_told g.S.Source.tells g.K.Sink.tells c.args.ends)
+          (run_told g.S.Source.tells g.K.Sink.tells c.args.ends.number c.ended.result.run c.ended.result.sinks.items)
+          run.result asks asks 0 0 (map g.K.Sink.tells run.new.sinks.items) (map g.S.Source.tells run.result.sources.items)
+          (λ v. refl) c.ended.ensures.report c.ended.ensures.left_over
+          (ap (λ v. map g.K.Sink.tells v.items) c.ended.ensures.sinks) (ap (λ v. map g.S.Source.tells v.items) c.ended.ensures.sources)
+          (run.ensures.run (rules_on side grammar limits) asks 0) run.ensures.sources;
+      asks = asks_nothing side asks book (λ v. refl);
+    }
 
 pub returns-clause-marks : goal.returns-clause-marks
 returns-clause-marks g c =

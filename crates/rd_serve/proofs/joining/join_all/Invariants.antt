@@ -2,6 +2,7 @@ use Rattle.std.proofs.Common.{◌≡◌, None, vec_len}
 use Rattle.rd_run_session.specs.CameTo.{CameTo}
 use Rattle.rd_serve.specs.Serving.{Tells}
 use Rattle.rd_serve.specs.Counting.{CountedBy}
+use Rattle.rd_serve.specs.Booking.{AreBooked, lents}
 use Rattle.rd_serve.specs.Noting.{AreLive, NotesStay}
 use Rattle.rd_serve.specs.Operators.{Answering}
 use Rattle.rd_serve.specs.Sessions.{AreOut, HasRoom, KeepsTold}
@@ -18,6 +19,7 @@ invariant-loop-rt g l =
     × AreLive l.desk.ids l.sessions.items
     × Answering (NotesStay l.first.value.setup (g.E.Doors.tells l.initial.doors) (g.E.Doors.tells l.doors) g.E.Give.Source.tells g.E.Take.Sink.tells l.initial.desk l.desk l.initial.sessions.items l.sessions.items)
     (g.C.Clock.tells l.initial.clock) (g.C.Clock.tells l.clock)
+    × AreBooked g.row.E-Give.Denot l.first.value.setup l.first.value.book (g.E.Doors.tells l.doors) l.runner.book (lents g.E.Give.Source.tells g.E.Take.Sink.tells l.sessions.items)
 
 abbrev pub decreases-loop-rt : goal.decreases-loop-rt
 decreases-loop-rt g l = vec_len l.sessions

@@ -1,6 +1,9 @@
 use Rattle.rd_serve.proofs.Outs.{out_holds, out_is, out_left, keeps_promise}
 use Rattle.rd_serve.proofs.Live.{live_holds, live_keepable, live_left, kept_left}
 use Rattle.rd_serve.proofs.Answering.{by_answers}
+use Rattle.rd_doors.specs.Visits.{ends_told}
+use Rattle.rd_serve.specs.Booking.{lents}
+use Rattle.rd_serve.proofs.Booking.{are_taken, keeps_book}
 use Rattle.rd_serve.proofs.joining.join_at.Goals as goal
 
 pub give_back-requires-clause-out : goal.give_back-requires-clause-out
@@ -19,7 +22,7 @@ pub give_back-requires-clause-kept : goal.give_back-requires-clause-kept
 give_back-requires-clause-kept g c κs within =
     keeps_promise g.E.Give.Source.tells g.E.Take.Sink.tells c.args.first.now.value.setup (g.E.Doors.tells c.args.doors.now) c.remove-number.result c.join-served.result
     (out_is g.E.Give.Source.tells g.E.Take.Sink.tells c.args.first.now.value.setup (g.E.Doors.tells c.args.doors.now) c.args.waiting c.args.sessions.now.items c.args.place c.remove-number.result c.requires.out c.requires.place c.remove-number.ensures.value)
-    c.join-served.ensures
+    c.join-served.ensures.0
 
 -- ---- its id and its note
 
@@ -39,3 +42,14 @@ returns-clause-notes g c =
     kept_left g.E.Give.Source.tells g.E.Take.Sink.tells start c.args.first.now.value.setup (g.E.Doors.tells c.args.doors.now) (g.E.Doors.tells c.give_back.new.doors) asked more c.args.desk.now c.give_back.new.desk keeper count wait
     c.args.sessions.now.items c.remove-number.new.self.items c.args.place c.remove-number.result c.requires.place c.remove-number.ensures.value c.remove-number.ensures.by_index.2 c.give_back.ensures.keeps (back start asked keeper count wait) kept)
     c.give_back.ensures.notes
+
+-- ---- its book
+
+pub returns-clause-books : goal.returns-clause-books
+returns-clause-books g c =
+    let s = c.remove-number.result in
+    let out = out_is g.E.Give.Source.tells g.E.Take.Sink.tells c.args.first.now.value.setup (g.E.Doors.tells c.args.doors.now) c.args.waiting c.args.sessions.now.items c.args.place s c.requires.out c.requires.place c.remove-number.ensures.value in
+    c.give_back.ensures.books s.handle.promise.runner.value.book (lents g.E.Give.Source.tells g.E.Take.Sink.tells c.remove-number.new.self.items)
+    (keeps_book g.E.Give.Source.tells g.E.Take.Sink.tells c.args.first.now.value.setup (g.E.Doors.tells c.args.doors.now) s c.join-served.result out c.join-served.ensures.1)
+    (are_taken g.row.E-Give.Denot c.args.first.now.value.setup (λ x. record { side = x.side; ends = ends_told g.E.Give.Source.tells g.E.Take.Sink.tells x.ends.value; book = x.handle.promise.runner.value.book }) c.args.first.now.value.book (g.E.Doors.tells c.args.doors.now) c.args.runner.now.book
+    c.args.sessions.now.items c.remove-number.new.self.items c.args.place s c.requires.place c.remove-number.ensures.value c.remove-number.ensures.by_index.2 c.requires.books)

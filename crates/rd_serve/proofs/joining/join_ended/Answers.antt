@@ -15,6 +15,7 @@ loop-count-preserved g c = (
   then_answering _ _ _ (g.C.Clock.tells c.args.clock.now) (g.C.Clock.tells c.loop-count.clock) (g.C.Clock.tells c.join_at.new.clock)
       (stay_then g.E.Give.Source.tells g.E.Take.Sink.tells c.args.first.now.value.setup (g.E.Doors.tells c.args.doors.now) (g.E.Doors.tells c.loop-count.doors) (g.E.Doors.tells c.join_at.new.doors)
       c.args.desk.now c.loop-count.desk c.join_at.new.desk c.args.sessions.now.items c.loop-count.sessions.items c.join_at.new.sessions.items) c.loop-count.invariant.7 c.join_at.ensures.notes,
+  c.join_at.ensures.books,
 )
 
 pub loop-count-init : goal.loop-count-init
@@ -27,4 +28,5 @@ loop-count-init g c = (
   keeps_same (g.E.Doors.tells c.args.doors.now) (g.E.Doors.tells c.args.doors.now) refl,
   c.requires.live,
   unasked _ (g.C.Clock.tells c.args.clock.now) (stay_none g.E.Give.Source.tells g.E.Take.Sink.tells c.args.first.now.value.setup (g.E.Doors.tells c.args.doors.now) c.args.desk.now c.args.sessions.now.items),
+  c.requires.books,
 )

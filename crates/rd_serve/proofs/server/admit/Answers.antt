@@ -8,6 +8,11 @@ use Rattle.rd_serve.proofs.Live.{live_few, live_begun, live_back, begun_holds, k
 use Rattle.rd_serve.proofs.Answering.{ticked, ticks_then}
 use Rattle.rd_serve.proofs.Noting.{noted_begun, begun_next}
 use Rattle.rd_serve.proofs.Outs.{waiting_holds, waiting_ended, waiting_begun}
+use Rattle.rd_doors.specs.Visits.{run_told}
+use Rattle.rd_runner.specs.Counts.{RunnerTold}
+use Rattle.rd_lent_book.specs.Lending.{Lends, MovesWith}
+use Rattle.rd_serve.specs.Booking.{AreBooked, KeepsBook, Lent, lents}
+use Rattle.rd_serve.proofs.Booking.{are_lent, are_first, are_pushed, counted_book}
 use Rattle.rd_serve.proofs.server.admit.Goals as goal
 
 pub begin_session-begun-requires : goal.begin_session-begun-requires
@@ -115,3 +120,45 @@ returns-in-Ok-clause-notes g c =
           (begun_next start c.args.first.now.value.setup (g.E.Doors.tells c.args.doors.now) asked c.args.desk.now c.begin_session-begun.new.desk c.begin_session-begun.result keeper count c.args.side (ends_told g.E.Give.Source.tells g.E.Take.Sink.tells c.args.ends) c.begin_session-begun.ensures.begins kept.noted next))
           (noted_begun start c.args.first.now.value.setup (g.E.Doors.tells c.args.doors.now) asked (c.begin_session-begun.result.at ∷ []) c.args.desk.now c.begin_session-begun.new.desk c.begin_session-begun.result.id keeper count c.begin_session-begun.ensures.begins c.begin_session-begun.ensures.notes kept.noted) kept;
     })
+
+-- ---- its book
+
+pub returns-in_default-clause-books : goal.returns-in_default-clause-books
+returns-in_default-clause-books g c =
+    c.serve_here.ensures.books (lents g.E.Give.Source.tells g.E.Take.Sink.tells c.args.sessions.now.items)
+    (subst (λ (r : RunnerTold). AreBooked g.row.E-Give.Denot c.args.first.now.value.setup c.args.first.now.value.book (g.E.Doors.tells c.args.doors.now) r.book (lents g.E.Give.Source.tells g.E.Take.Sink.tells c.args.sessions.now.items)) (sym c.in_default.ensures.none) c.requires.books)
+
+pub returns-in-Err-clause-books : goal.returns-in-Err-clause-books
+returns-in-Err-clause-books g c =
+    let was : c.of-handed.result.value ≡ c.args.ends = c.of-handed.ensures in
+    let theirs = c.in-Some.theirs in
+    let served = c.in-Err.served in
+    let ss = lents g.E.Give.Source.tells g.E.Take.Sink.tells c.args.sessions.now.items in
+    let lent : Lent = record { side = c.args.side; ends = ends_told g.E.Give.Source.tells g.E.Take.Sink.tells c.of-handed.result.value; book = theirs.book } in
+    let setup : theirs.setup ≡ c.args.first.now.value.setup = c.in-Some.ensures.other.setup ∙ c.requires.counts.setup in
+    let keeps = subst (λ (e : Ends g.row.E-Give.Denot g.row.E-Take.Denot). KeepsBook g.row.E-Give.Denot c.args.first.now.value.setup c.args.side (ends_told g.E.Give.Source.tells g.E.Take.Sink.tells e) (run_told g.E.Give.Source.tells g.E.Take.Sink.tells e.number served.ended.run served.ended.sinks.items) theirs.book served.runner.book) (sym was)
+    (subst (λ u. KeepsBook g.row.E-Give.Denot u c.args.side (ends_told g.E.Give.Source.tells g.E.Take.Sink.tells c.args.ends) (run_told g.E.Give.Source.tells g.E.Take.Sink.tells c.args.ends.number served.ended.run served.ended.sinks.items) theirs.book served.runner.book) setup c.in-Err.ensures.here.1) in
+    c.give_back.ensures.books theirs.book ss keeps
+    (are_first g.row.E-Give.Denot c.args.first.now.value.setup c.args.first.now.value.book (g.E.Doors.tells c.args.doors.now) c.lend.new.runner.book lent ss
+    (are_lent g.row.E-Give.Denot c.args.first.now.value.setup c.args.first.now.value.book (g.E.Doors.tells c.args.doors.now) c.args.runner.now.book c.lend.new.runner.book lent ss (subst (λ (e : Ends g.row.E-Give.Denot g.row.E-Take.Denot). (told : List (Entry (SessionLeft g.row.R.Denot))) → (g.E.Doors.tells c.args.doors.now).told ≡ Some told → Has (Gave c.args.side (ends_told g.E.Give.Source.tells g.E.Take.Sink.tells e)) told) (sym was) c.requires.given) c.in-Some.ensures.lent c.requires.books))
+
+pub returns-in-Ok-clause-books : goal.returns-in-Ok-clause-books
+returns-in-Ok-clause-books g c =
+    let was : c.of-handed.result.value ≡ c.args.ends = c.of-handed.ensures in
+    let ss = lents g.E.Give.Source.tells g.E.Take.Sink.tells c.args.sessions.now.items in
+    let lent : Lent = record { side = c.args.side; ends = ends_told g.E.Give.Source.tells g.E.Take.Sink.tells c.of-handed.result.value; book = c.in-Ok.handle.promise.runner.value.book } in
+    are_pushed g.row.E-Give.Denot c.args.first.now.value.setup (λ x. record { side = x.side; ends = ends_told g.E.Give.Source.tells g.E.Take.Sink.tells x.ends.value; book = x.handle.promise.runner.value.book }) c.args.first.now.value.book (g.E.Doors.tells c.args.doors.now) c.lend.new.runner.book c.args.sessions.now.items c.push_reserved-in-Ok.new.self.items _
+    c.push_reserved-in-Ok.ensures.items
+    (are_lent g.row.E-Give.Denot c.args.first.now.value.setup c.args.first.now.value.book (g.E.Doors.tells c.args.doors.now) c.args.runner.now.book c.lend.new.runner.book lent ss (subst (λ (e : Ends g.row.E-Give.Denot g.row.E-Take.Denot). (told : List (Entry (SessionLeft g.row.R.Denot))) → (g.E.Doors.tells c.args.doors.now).told ≡ Some told → Has (Gave c.args.side (ends_told g.E.Give.Source.tells g.E.Take.Sink.tells e)) told) (sym was) c.requires.given)
+    (subst (λ (r : RunnerTold). MovesWith Lends c.args.runner.now.book r.book c.lend.new.runner.book) (sym c.in-Ok.ensures.runner) c.in-Some.ensures.lent) c.requires.books)
+
+-- ---- counts stay, whatever was lent
+
+pub serve_here-requires-clause-counts : goal.serve_here-requires-clause-counts
+serve_here-requires-clause-counts g c κs within = counted_book c.args.first.now.value c.args.runner.now c.lend.new.runner (g.E.Doors.tells c.args.doors.now) c.lend.ensures.same c.requires.counts
+
+pub give_back-requires-clause-counts : goal.give_back-requires-clause-counts
+give_back-requires-clause-counts g c κs within = counted_book c.args.first.now.value c.args.runner.now c.lend.new.runner (g.E.Doors.tells c.args.doors.now) c.lend.ensures.same c.requires.counts
+
+pub returns-in-Ok-clause-counts : goal.returns-in-Ok-clause-counts
+returns-in-Ok-clause-counts g c = counted_book c.args.first.now.value c.args.runner.now c.lend.new.runner (g.E.Doors.tells c.args.doors.now) c.lend.ensures.same c.requires.counts

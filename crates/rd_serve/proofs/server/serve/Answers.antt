@@ -1,4 +1,4 @@
-use Rattle.std.proofs.Common.{◌≡◌, ◌≤◌, [], sym, ◌∙◌, subst, arith}
+use Rattle.std.proofs.Common.{◌≡◌, ◌≤◌, [], sym, ap, ◌∙◌, subst, arith}
 use Rattle.rd_desk.proofs.At.{rose_sooner}
 use Rattle.rd_run_session.specs.CameTo.{CameTo}
 use Rattle.rd_doors.specs.Visits.{ends_told}
@@ -9,6 +9,9 @@ use Rattle.rd_serve.specs.Sessions.{Each}
 use Rattle.rd_serve.proofs.Answering.{answers_by, then_answering, serve_stay}
 use Rattle.rd_serve.proofs.Noting.{noted_first, noted_ends, on_both, on_ok}
 use Rattle.rd_serve.proofs.Times.{all_ended}
+use Rattle.rd_serve.specs.Booking.{AreBooked, lents}
+use Rattle.rd_serve.specs.Books.{ServedBook}
+use Rattle.rd_serve.proofs.Booking.{are_started, booked_served}
 use Rattle.rd_serve.proofs.server.serve.Goals as goal
 
 pub returns-clause-ended : goal.returns-clause-ended
@@ -41,3 +44,18 @@ pub returns-clause-four : goal.returns-clause-four
 returns-clause-four g c failed =
     rose_sooner (g.Y.Keeper.tells c.args.keeper.now).faults (g.Y.Keeper.tells c.serve_visits.new.keeper).faults (g.Y.Keeper.tells c.keep_all.new.keeper).faults
     c.serve_visits.ensures.faults (c.keep_all.ensures.failed failed)
+
+-- ---- its book
+
+pub serve_visits-requires-clause-books : goal.serve_visits-requires-clause-books
+serve_visits-requires-clause-books g c κs within =
+    subst (λ ss. AreBooked g.row.E-Give.Denot c.of-first.result.value.setup c.of-first.result.value.book (g.E.Doors.tells c.args.doors.now) c.args.runner.now.book (lents g.E.Give.Source.tells g.E.Take.Sink.tells ss)) (sym c.in-Ok.ensures.items)
+    (subst (λ (r : RunnerTold). AreBooked g.row.E-Give.Denot c.of-first.result.value.setup c.of-first.result.value.book (g.E.Doors.tells c.args.doors.now) r.book []) c.of-first.ensures
+    (are_started g.row.E-Give.Denot c.of-first.result.value.setup c.of-first.result.value.book (g.E.Doors.tells c.args.doors.now) c.requires.untold))
+
+pub returns-clause-book : goal.returns-clause-book
+returns-clause-book g c =
+    on_ok c.keep_all.result _ (λ others told new is.
+    subst (λ (r : RunnerTold). ServedBook g.row.E-Give.Denot r.setup told) c.of-first.ensures
+    (booked_served g.row.E-Give.Denot c.of-first.result.value.setup told c.join_all.new.runner.book c.end_lending.ensures.heard
+    (c.join_all.ensures.books others (ap (λ (r : RunnerTold). r.book) c.of-first.ensures ∙ new) told is)))

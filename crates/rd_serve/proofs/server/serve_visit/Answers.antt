@@ -9,6 +9,8 @@ use Rattle.rd_serve.proofs.Noting.{noted_quiet, noted_same, noted_operator, came
 use Rattle.rd_serve.proofs.Times.{all_accounted}
 use Rattle.rd_serve.proofs.Answering.{unasked, by_answers}
 use Rattle.rd_serve.proofs.Live.{kept_still, serve_quiet}
+use Rattle.rd_serve.specs.Booking.{lents}
+use Rattle.rd_serve.proofs.Booking.{are_quiet, are_same}
 use Rattle.rd_serve.proofs.server.serve_visit.Goals as goal
 
 -- ---- Client
@@ -177,3 +179,28 @@ returns-in-Callers-clause-notes g c =
     (noted_quiet start c.args.first.now.value.setup (g.E.Doors.tells c.args.doors.now) (g.E.Doors.tells c.next_visit.new.self) (Gave Outgoing (ends_told g.E.Give.Source.tells g.E.Take.Sink.tells c.in-Callers.ends)) asked c.args.desk.now (g.Y.Keeper.tells c.args.keeper.now) had.count 0 1 c.in-Callers.ensures.told refl refl (λ before. tt) refl had.kept.noted) had.kept)
     (came_next start c.args.first.now.value.setup (g.E.Doors.tells c.args.doors.now) (g.E.Doors.tells c.next_visit.new.self) Outgoing (ends_told g.E.Give.Source.tells g.E.Take.Sink.tells c.in-Callers.ends) asked c.args.desk.now (g.Y.Keeper.tells c.args.keeper.now) had.count c.in-Callers.ensures.told had.kept.noted))
     c.receive-in-Callers.ensures.notes
+
+pub returns-in-Quiet-clause-books : goal.returns-in-Quiet-clause-books
+returns-in-Quiet-clause-books g c = are_same g.row.E-Give.Denot c.args.first.now.value.setup c.args.first.now.value.book (g.E.Doors.tells c.args.doors.now) (g.E.Doors.tells c.next_visit.new.self) c.args.runner.now.book (lents g.E.Give.Source.tells g.E.Take.Sink.tells c.args.sessions.now.items) c.in-Quiet.ensures.told c.requires.books
+
+pub returns-in-Failed-clause-books : goal.returns-in-Failed-clause-books
+returns-in-Failed-clause-books g c = are_same g.row.E-Give.Denot c.args.first.now.value.setup c.args.first.now.value.book (g.E.Doors.tells c.args.doors.now) (g.E.Doors.tells c.next_visit.new.self) c.args.runner.now.book (lents g.E.Give.Source.tells g.E.Take.Sink.tells c.args.sessions.now.items) c.in-Failed.ensures.told c.requires.books
+
+pub returns-in-NoMemory-clause-books : goal.returns-in-NoMemory-clause-books
+returns-in-NoMemory-clause-books g c = are_same g.row.E-Give.Denot c.args.first.now.value.setup c.args.first.now.value.book (g.E.Doors.tells c.args.doors.now) (g.E.Doors.tells c.next_visit.new.self) c.args.runner.now.book (lents g.E.Give.Source.tells g.E.Take.Sink.tells c.args.sessions.now.items) c.in-NoMemory.ensures.told c.requires.books
+
+pub returns-in-Over-clause-books : goal.returns-in-Over-clause-books
+returns-in-Over-clause-books g c = are_same g.row.E-Give.Denot c.args.first.now.value.setup c.args.first.now.value.book (g.E.Doors.tells c.args.doors.now) (g.E.Doors.tells c.next_visit.new.self) c.args.runner.now.book (lents g.E.Give.Source.tells g.E.Take.Sink.tells c.args.sessions.now.items) c.in-Over.ensures.told c.requires.books
+
+pub returns-in-Operator-clause-books : goal.returns-in-Operator-clause-books
+returns-in-Operator-clause-books g c =
+    are_quiet g.row.E-Give.Denot c.args.first.now.value.setup c.args.first.now.value.book (g.E.Doors.tells c.next_visit.new.self) (g.E.Doors.tells c.answer.new.doors) _ c.args.runner.now.book (lents g.E.Give.Source.tells g.E.Take.Sink.tells c.args.sessions.now.items) c.answer.ensures.answers.back.told refl
+    (are_quiet g.row.E-Give.Denot c.args.first.now.value.setup c.args.first.now.value.book (g.E.Doors.tells c.args.doors.now) (g.E.Doors.tells c.next_visit.new.self) _ c.args.runner.now.book (lents g.E.Give.Source.tells g.E.Take.Sink.tells c.args.sessions.now.items) c.in-Operator.ensures.told refl c.requires.books)
+
+pub receive-requires-clause-books : goal.receive-requires-clause-books
+receive-requires-clause-books g c κs within =
+    are_quiet g.row.E-Give.Denot c.args.first.now.value.setup c.args.first.now.value.book (g.E.Doors.tells c.args.doors.now) (g.E.Doors.tells c.next_visit.new.self) _ c.args.runner.now.book (lents g.E.Give.Source.tells g.E.Take.Sink.tells c.args.sessions.now.items) c.in-Client.ensures.told refl c.requires.books
+
+pub receive-requires-in-Callers-clause-books : goal.receive-requires-in-Callers-clause-books
+receive-requires-in-Callers-clause-books g c κs within =
+    are_quiet g.row.E-Give.Denot c.args.first.now.value.setup c.args.first.now.value.book (g.E.Doors.tells c.args.doors.now) (g.E.Doors.tells c.next_visit.new.self) _ c.args.runner.now.book (lents g.E.Give.Source.tells g.E.Take.Sink.tells c.args.sessions.now.items) c.in-Callers.ensures.told refl c.requires.books

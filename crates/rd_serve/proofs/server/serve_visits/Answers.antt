@@ -22,6 +22,7 @@ loop-preserved g c = (
       (g.Y.Keeper.tells c.args.keeper.now) (g.Y.Keeper.tells c.loop.keeper) (g.Y.Keeper.tells c.serve_visit-over.new.keeper) c.args.sessions.now.items c.loop.sessions.items c.serve_visit-over.new.sessions.items)
       c.loop.invariant.5 c.serve_visit-over.ensures.notes) c.join_ended.ensures.notes),
   (let one = c.loop.invariant.6 in let two = c.serve_visit-over.ensures.faults in let three = c.keep_some-put.ensures.keeps.faults in omega arith),
+  c.join_ended.ensures.books,
 )
 
 pub returns-then-over-clause-notes : goal.returns-then-over-clause-notes
@@ -40,4 +41,5 @@ loop-init g c = (
   c.requires.live,
   unasked _ (g.C.Clock.tells c.args.clock.now) (serve_none g.E.Give.Source.tells g.E.Take.Sink.tells _ (g.E.Doors.tells c.args.doors.now) c.args.desk.now (g.Y.Keeper.tells c.args.keeper.now) c.args.sessions.now.items),
   omega arith,
+  c.requires.books,
 )

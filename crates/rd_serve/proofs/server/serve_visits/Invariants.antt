@@ -2,6 +2,7 @@ use Rattle.std.proofs.Common.{◌≡◌, ◌≤◌, None}
 use Rattle.rd_run_session.specs.CameTo.{CameTo}
 use Rattle.rd_serve.specs.Serving.{Tells}
 use Rattle.rd_serve.specs.Counting.{CountedBy}
+use Rattle.rd_serve.specs.Booking.{AreBooked, lents}
 use Rattle.rd_serve.specs.Noting.{AreLive, NotesServe}
 use Rattle.rd_serve.specs.Operators.{Answering}
 use Rattle.rd_serve.specs.Sessions.{AreOut, HasRoom}
@@ -17,3 +18,4 @@ invariant-loop g l =
     × Answering (NotesServe l.first.value.setup (g.E.Doors.tells l.initial.doors) (g.E.Doors.tells l.doors) g.E.Give.Source.tells g.E.Take.Sink.tells l.initial.desk l.desk l.initial.sessions.items l.sessions.items
     (g.Y.Keeper.tells l.initial.keeper) (g.Y.Keeper.tells l.keeper)) (g.C.Clock.tells l.initial.clock) (g.C.Clock.tells l.clock)
     × ((g.Y.Keeper.tells l.initial.keeper).faults ≤ (g.Y.Keeper.tells l.keeper).faults)
+    × AreBooked g.row.E-Give.Denot l.first.value.setup l.first.value.book (g.E.Doors.tells l.doors) l.runner.book (lents g.E.Give.Source.tells g.E.Take.Sink.tells l.sessions.items)

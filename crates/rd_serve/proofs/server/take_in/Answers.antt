@@ -5,6 +5,8 @@ use Rattle.rd_serve.proofs.Noting.{noted_quiet}
 use Rattle.rd_serve.specs.Noting.{AreKept}
 use Rattle.rd_serve.proofs.Answering.{unasked}
 use Rattle.rd_serve.proofs.Live.{kept_still}
+use Rattle.rd_serve.specs.Booking.{lents}
+use Rattle.rd_serve.proofs.Booking.{are_quiet}
 use Rattle.rd_serve.proofs.server.take_in.Goals as goal
 
 pub turn_away-requires-clause-out : goal.turn_away-requires-clause-out
@@ -23,3 +25,8 @@ returns-in_default-clause-notes g c =
           (kept_still g.E.Give.Source.tells g.E.Take.Sink.tells start c.args.first.now.value.setup (g.E.Doors.tells c.args.doors.now) (g.E.Doors.tells c.turn_away.new.doors) asked c.args.desk.now c.args.desk.now keeper keeper count count 1 0 c.args.sessions.now.items c.turn_away.ensures.keeps
           (noted_quiet start c.args.first.now.value.setup (g.E.Doors.tells c.args.doors.now) (g.E.Doors.tells c.turn_away.new.doors) (TurnedAway (ends_told g.E.Give.Source.tells g.E.Take.Sink.tells c.args.ends)) asked c.args.desk.now keeper count 1 0 c.turn_away.ensures.told refl refl (λ before. tt) refl kept.noted) kept);
     })
+
+pub returns-in_default-clause-books : goal.returns-in_default-clause-books
+returns-in_default-clause-books g c =
+    are_quiet g.row.E-Give.Denot c.args.first.now.value.setup c.args.first.now.value.book (g.E.Doors.tells c.args.doors.now) (g.E.Doors.tells c.turn_away.new.doors) (TurnedAway (ends_told g.E.Give.Source.tells g.E.Take.Sink.tells c.args.ends)) c.args.runner.now.book (lents g.E.Give.Source.tells g.E.Take.Sink.tells c.args.sessions.now.items)
+    c.turn_away.ensures.told refl c.requires.books

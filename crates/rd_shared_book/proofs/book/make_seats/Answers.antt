@@ -1,5 +1,5 @@
 use Rattle.std.proofs.Common.{◌∷◌, [], ◌++◌, ◌∙◌, sym, ap}
-use Rattle.rd_shared_book.specs.Seats.{new_seat}
+use Rattle.rd_lent_book.specs.Seats.{new_seat}
 use Rattle.rd_shared_book.proofs.Telling.{new_seats-more}
 use Rattle.rd_shared_book.proofs.book.make_seats.Goals as goal
 

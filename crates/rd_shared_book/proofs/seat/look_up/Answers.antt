@@ -1,5 +1,5 @@
 use Rattle.std.proofs.Common.{refl}
-use Rattle.rd_shared_book.specs.Books.{book_after}
+use Rattle.rd_lent_book.specs.Books.{book_after}
 use Rattle.rd_shared_book.proofs.Telling.{found_told, found_is_fresh}
 use Rattle.rd_shared_book.proofs.seat.look_up.Goals as goal
 

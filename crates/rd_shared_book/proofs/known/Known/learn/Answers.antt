@@ -1,7 +1,7 @@
 use Rattle.std.proofs.Common.{◌≡◌, ◌∷◌, [], ◌++◌, ◌∙◌, refl, sym, ap, subst, length, arith}
 use Rattle.rd_token_map.specs.BookCalls.{Learned}
 use Rattle.rd_history.specs.Learns.{entry}
-use Rattle.rd_shared_book.specs.Seats.{SeatView, IsFresh, learned}
+use Rattle.rd_lent_book.specs.Seats.{SeatView, IsFresh, learned}
 use Rattle.rd_shared_book.proofs.Appended.{of_seat-fewer, length-learns_by}
 use Rattle.rd_shared_book.proofs.Telling.{seat_with, learned_is_fresh, learned-count}
 use Rattle.rd_shared_book.proofs.known.Known.learn.Goals as goal

@@ -1,5 +1,5 @@
 -- What a seat knows, and how its calls move it.
-use Rattle.std.specs.Prelude.{◌≡◌, ◌<◌, ℕ, zero, suc, List, [], ◌∷◌, ◌++◌, map}
+use Rattle.std.specs.Prelude.{◌≡◌, ◌<◌, ℕ, zero, suc, List, [], ◌∷◌, ◌++◌}
 use mathlib.Core.List.{IsPrefix}
 use Rattle.rd_base.specs.History.{Row}
 use Rattle.rd_token_map.specs.BookCalls.{BookCall, Found, Learned}
@@ -38,7 +38,3 @@ new_seat number = record { number = number; learns = []; calls = [] }
 abbrev pub new_seats : ℕ → List SeatView
 new_seats zero = []
 new_seats (suc count) = new_seats count ++ new_seat count ∷ []
-
--- the rows of its list, in the order of their learning
-abbrev pub rows_seen : SeatView → List Row
-rows_seen seat = map (λ learn. learn.row) seat.learns

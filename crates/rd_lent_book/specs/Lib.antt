@@ -1,0 +1,4 @@
+pub mod Seats
+pub mod Books
+pub mod Answers
+pub mod Lending
