@@ -1,4 +1,4 @@
-ghost use Rattle.std.specs.Prelude.{◌≡◌, ◌≤◌, ◌⊎◌, ℕ, [], List, map, Some, None, Ok, Err, string_bytes, IfOk, IfErr, true, false};
+ghost use Rattle.std.specs.Prelude.{◌≡◌, ◌≤◌, ◌⊎◌, ℕ, [], List, map, Some, None, Ok, Err, string_bytes, IfOk, IfErr, IfSome, true, false};
 ghost use Rattle.rd_base.specs.Limits.{AreLimits};
 ghost use Rattle.rd_base.specs.Outside.{HoldsPrefix, NamedFile, Rose, StaysOpen, StaysRead, held_with};
 ghost use Rattle.rd_conf.specs.declared.settings.Settings.{Settings};
@@ -7,6 +7,8 @@ ghost use Rattle.rd_runner.specs.Counts.{RoseBy};
 ghost use Rattle.rd_runner.specs.Runs.{setup_of};
 ghost use Rattle.rd_run_session.specs.CameTo.{CameTo};
 ghost use Rattle.rd_run_session.specs.declared.left.SessionLeft.{SessionLeft};
+ghost use Rattle.rd_lent_book.specs.Lending.{new_book};
+ghost use Rattle.rd_serve.specs.Books.{ServedBook};
 ghost use Rattle.rd_serve.specs.Counting.{EachRun, IsWithin, times_stopped, times_unstarted};
 ghost use Rattle.rd_serve.specs.Operators.{AllNoted};
 ghost use Rattle.rd_serve.specs.Serving.{IsServed, times_given, times_ended};
@@ -105,6 +107,11 @@ pub fn run_main<
         → (E.tells doors.new).told ≡ Some told
         → AllNoted (setup_of settings) told (C.tells clock.old) (C.tells clock.new)
         (Y.tells keeper.old) (Y.tells keeper.new) }
+    ensures book { result ≡ 0 → (all : List NamedFile) (settings : Settings)
+        (told : List (Entry (SessionLeft R))) → (F.tells files.old).files ≡ Some all
+        → served_by (map string_bytes words.now) all ≡ Ok settings
+        → (E.tells doors.new).told ≡ Some told
+        → ServedBook E.Give (setup_of settings) told }
     ensures four { result ≡ 4 → Rose (F.tells files.old).faults (F.tells files.new).faults
         ⊎ Rose (Y.tells keeper.old).faults (Y.tells keeper.new).faults }
     ensures five { result ≡ 5 → Rose (K.tells out.old).faults (K.tells out.new).faults }
@@ -266,6 +273,9 @@ fn serve_by<
         → (E.tells doors.new).told ≡ Some told
         → AllNoted (setup_of settings) told (C.tells clock.old) (C.tells clock.new)
         (Y.tells keeper.old) (Y.tells keeper.new) }
+    ensures book { result ≡ 0 → (told : List (Entry (SessionLeft R)))
+        → (E.tells doors.new).told ≡ Some told
+        → ServedBook E.Give (setup_of settings) told }
     ensures unkept { result ≡ 4 → Rose (Y.tells keeper.old).faults (Y.tells keeper.new).faults }
     ensures unwritten { result ≡ 5 → ⊥ }
     ensures ports { result ≡ 7 → Rose (E.tells doors.old).faults (E.tells doors.new).faults }
@@ -287,6 +297,7 @@ fn serve_by<
 fn book_of<J: Naming, R: Wait + Copy>(rt: R, alloc: Global, list: NewList) -> Option<Lender<J, R>>
     requires book { list.seen.book ≡ J.book }
     requires seats { J.seats ≡ 33 }
+    ensures { IfSome result (λ lender. lender ≡ new_book 32) }
 {
     Lender::make(rt, alloc, list, SEATS).ok()
 }
@@ -339,6 +350,9 @@ fn serve_with<
         → (E.tells doors.new).told ≡ Some told
         → AllNoted (setup_of settings) told (C.tells clock.old) (C.tells clock.new)
         (Y.tells keeper.old) (Y.tells keeper.new) }
+    ensures book { result ≡ 0 → (told : List (Entry (SessionLeft R)))
+        → (E.tells doors.new).told ≡ Some told
+        → ServedBook E.Give (setup_of settings) told }
     ensures unkept { result ≡ 4 → Rose (Y.tells keeper.old).faults (Y.tells keeper.new).faults }
     ensures unwritten { result ≡ 5 → ⊥ }
     ensures ports { result ≡ 7 → Rose (E.tells doors.old).faults (E.tells doors.new).faults }
@@ -376,7 +390,7 @@ fn serve_with<
         book,
     );
     let served = serve(rt, alloc, doors, &mut runner, desk, clock, keeper);
-    let (their_spawner, their_clock, their_stop, _) = runner.into_parts();
+    let (their_spawner, their_clock, their_stop) = runner.into_parts();
     spawner.join_in(their_spawner);
     clock.join_in(their_clock);
     stop.join_in(their_stop);

@@ -1,8 +1,9 @@
-use Rattle.std.proofs.Common.{◌≡◌, ◌≤◌, Err, sym, ap, ◌∙◌, subst, arith}
+use Rattle.std.proofs.Common.{◌≡◌, ◌≤◌, Some, Err, sym, ap, ◌∙◌, subst, arith}
 use Rattle.rd_runner.specs.Runs.{Setup, setup_of}
 use Rattle.rd_desk.proofs.At.{rose_sooner}
 use Rattle.rd_runner.specs.Counts.{RunnerTold, RoseBy}
 use Rattle.rd_run_session.specs.CameTo.{CameTo}
+use Rattle.rd_serve.specs.Books.{ServedBook}
 use Rattle.rd_serve.specs.Counting.{times_stopped, times_unstarted}
 use Rattle.rd_serve.specs.Operators.{Answering, NotesAndAnswers}
 use Rattle.rd_serve.specs.Serving.{IsServed}
@@ -40,6 +41,12 @@ returns-in_default-served-clause-unstarted g c told is =
     rose_with_capped (times_unstarted told) (g.P.Spawner.tells c.args.spawner.now).refusals _ (g.P.Spawner.tells c.join_in.new.self).refusals c.serve-served.new.runner.refusals
     (subst (λ y. RoseBy (times_unstarted told) y c.serve-served.new.runner.refusals) (ap (λ (r : RunnerTold). r.refusals) c.new-runner.ensures) (c.serve-served.ensures.unstarted told is))
     c.into_parts-their_spawner.ensures.refusals c.join_in.ensures.refusals
+
+pub returns-in_default-served-clause-book : goal.returns-in_default-served-clause-book
+returns-in_default-served-clause-book g c zero told is =
+    let setup : c.new-runner.result.setup ≡ setup_of c.args.settings = ap (λ (r : RunnerTold). r.setup) c.new-runner.ensures in
+    subst (λ (s : Setup). ServedBook g.row.E-Give.Denot s told) setup
+    (c.in_default-served.ensures.book 32 told (ap (λ (r : RunnerTold). r.book) c.new-runner.ensures ∙ ap (λ b. Some b) c.in-Some.ensures) is)
 
 -- ---- a put failed
 
