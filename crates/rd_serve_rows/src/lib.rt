@@ -2,10 +2,14 @@
 // memory that they run over.
 #![tactic(auto)]
 
+#[cfg(test)]
+mod forms;
+mod in_turn;
 mod links;
 #[cfg(test)]
 mod sockets;
 #[cfg(test)]
 mod tests;
 
+pub use in_turn::InTurn;
 pub use links::{CountingSink, Marks, Sent, WaitingSource};

@@ -28,9 +28,9 @@ pub struct WaitingSource<R: Clock + Copy> {
     pub gave: bool,
 }
 
-/// Waits until a link was sent so many bytes or closed, ten seconds at most. Answers whether it was.
+/// Waits until a link was sent so many bytes or closed, forty seconds at most. Answers whether it was.
 fn wait_for<R: Clock>(rt: &R, sent: &Sent, bytes: u64) -> bool {
-    for _ in 0..10_000u32 {
+    for _ in 0..40_000u32 {
         if sent.load(Ordering::SeqCst) >= bytes {
             return true;
         }
@@ -60,14 +60,23 @@ impl<R: Clock + Copy> Source for WaitingSource<R> {
     }
 }
 
-/// A sink that counts the bytes that it was sent.
+/// A sink that counts the bytes that it was sent, and sees whether each stands so in those that are wanted.
 #[derive(Drop)]
 pub struct CountingSink {
     pub first: u64,
     pub second: u64,
+    pub wanted: &'static [u8],
+    pub is_other: bool,
     pub bytes: usize,
     pub is_closed: bool,
     pub sent: Sent,
+}
+
+impl CountingSink {
+    /// Whether it was sent what is wanted and no more.
+    pub fn is_as_wanted(&self) -> bool {
+        !self.is_other && self.bytes == self.wanted.len()
+    }
 }
 
 impl Sink for CountingSink {
@@ -76,7 +85,11 @@ impl Sink for CountingSink {
     ghost tells = { sink_told };
 
     fn push(&mut self, bytes: &[u8]) -> Result<(), Failed> {
-        self.bytes = self.bytes.saturating_add(bytes.len());
+        let behind = self.bytes.saturating_add(bytes.len());
+        if self.wanted.get(self.bytes..behind).unwrap_or(&[]) != bytes {
+            self.is_other = true;
+        }
+        self.bytes = behind;
         self.sent.store(self.bytes as u64, Ordering::SeqCst);
         Ok(())
     }

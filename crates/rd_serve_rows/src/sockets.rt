@@ -9,6 +9,7 @@ use rd_doors::Doors;
 use rd_keeper::MemKeeper;
 use rd_net_edge::{Flag, TcpDoors};
 use rd_serve::serve;
+use rd_token_map::NoBook;
 use std::alloc::Global;
 use std::io::{Read, Write};
 use std::net::{Ipv4Addr, SocketAddr, TcpListener, TcpStream};
@@ -93,7 +94,7 @@ fn client_over_sockets(rt: HostRuntime) -> Result<(), Fail> {
         stop.set();
         matches!(asked, Ok(true))
     })?;
-    let mut runner = runner_of(rt, alloc, settings);
+    let mut runner = runner_of(rt, alloc, settings, NoBook);
     let mut keeper = MemKeeper::new(alloc, Vec::new(alloc));
     let mut clock = MemClock::new(alloc, Vec::new(alloc));
     let Ok(desk) = Desk::open(alloc, &mut keeper) else {

@@ -7,6 +7,7 @@ use rd_conf::{Settings, default_settings};
 use rd_desk::Desk;
 use rd_doors::{Doors, Ends, Visit};
 use rd_keeper::{Keeper, MemKeeper};
+use rd_lent_book::LentBook;
 use rd_mem_doors::{MemDoors, Told};
 use rd_run_session::{SessionLeft, SessionRunner};
 use rd_serve::serve;
@@ -36,14 +37,15 @@ fn client<R: Clock + Copy>(
         } else {
             Arc::new(alloc, AtomicU64::new(0))?
         };
-        let (text, piece_behind, end_behind) = match (second, awaited) {
-            (3, _) => (b"get a\n".as_slice(), (Arc::try_clone(&sent)?, 0), 5),
-            (_, Some(other)) => (
-                b"ok 1\n".as_slice(),
-                (Arc::try_clone(other)?, u64::MAX),
-                u64::MAX,
-            ),
-            (_, None) => (b"ok 1\n".as_slice(), (Arc::try_clone(&sent)?, 6), u64::MAX),
+        let (text, wanted) = if second == 3 {
+            (b"get a\n".as_slice(), b"ok 1\n".as_slice())
+        } else {
+            (b"ok 1\n".as_slice(), b"get a\n".as_slice())
+        };
+        let (piece_behind, end_behind) = match (second, awaited) {
+            (3, _) => ((Arc::try_clone(&sent)?, 0), 5),
+            (_, Some(other)) => ((Arc::try_clone(other)?, u64::MAX), u64::MAX),
+            (_, None) => ((Arc::try_clone(&sent)?, 6), u64::MAX),
         };
         sources.push(WaitingSource {
             rt,
@@ -57,6 +59,8 @@ fn client<R: Clock + Copy>(
         sinks.push(CountingSink {
             first: number,
             second,
+            wanted,
+            is_other: false,
             bytes: 0,
             is_closed: false,
             sent,
@@ -94,12 +98,13 @@ fn doors_of<R: Clock + Wait + Copy + Send + 'static>(
     Ok(MemDoors::new(alloc, contents)?)
 }
 
-/// A runner by the settings of a file that says nothing.
-pub fn runner_of<R: Wait + Threads + Copy>(
+/// A runner by these settings, whose clock stands still, over this book.
+pub fn runner_of<B: LentBook, R: Wait + Threads + Copy>(
     rt: R,
     alloc: Global,
     settings: Settings,
-) -> SessionRunner<ThreadSpawner, MemClock, MemStopper, NoBook, R>
+    book: B,
+) -> SessionRunner<ThreadSpawner, MemClock, MemStopper, B, R>
     requires { AreLimits settings.limits }
     ensures { result.setup.limits ≡ settings.limits }
 {
@@ -113,13 +118,13 @@ pub fn runner_of<R: Wait + Threads + Copy>(
         ThreadSpawner::new(),
         MemClock::new(alloc, Vec::new(alloc)),
         MemStopper::new(alloc, Vec::new(alloc)),
-        NoBook,
+        book,
     )
 }
 
-/// What came back, by number: for each run its visit's number, and whether it was Done and its links were sent the request
-/// and the reply.
-fn runs_of<R: Clock + Wait + Copy>(
+/// What came back, by number: for each run its visit's number, and whether it was Done and each link was sent what is
+/// wanted.
+pub fn runs_of<R: Clock + Wait + Copy>(
     alloc: Global,
     told: &[Told<WaitingSource<R>, CountingSink, SessionLeft<R>>],
 ) -> Result<Vec<(u64, bool)>, Fail> {
@@ -128,7 +133,7 @@ fn runs_of<R: Clock + Wait + Copy>(
         if let Told::CameBack(number, run, sinks) = one {
             let mut whole = matches!(run.left.report.ending, Ending::Done) && sinks.len() == 4;
             for sink in sinks {
-                whole = whole && sink.bytes == if sink.second == 3 { 5 } else { 6 };
+                whole = whole && sink.is_as_wanted();
             }
             runs.push((*number, whole))?;
         }
@@ -159,7 +164,7 @@ fn clients_side_by_side(rt: HostRuntime) -> Result<(), Fail> {
         let mut doors = doors_of(rt, alloc, clients)?;
         let settings = default_settings(alloc)?;
         assert!(rt; doors.make_ports(alloc, &settings).is_ok());
-        let mut runner = runner_of(rt, alloc, settings);
+        let mut runner = runner_of(rt, alloc, settings, NoBook);
         let mut keeper = MemKeeper::new(alloc, Vec::new(alloc));
         let mut clock = MemClock::new(alloc, Vec::new(alloc));
         let Ok(desk) = Desk::open(alloc, &mut keeper) else {
