@@ -56,8 +56,8 @@ fn client<R: Clock + Copy>(
 ) -> Result<Ends<WaitingSource<R>, CountingSink>, Fail> {
     let mut sources = Vec::new(alloc);
     let mut sinks = Vec::new(alloc);
-    let mut second = 0;
-    for (wanted, text) in links {
+    for second in 0..4u64 {
+        let (wanted, text) = links[second as usize];
         let sent = Arc::new(alloc, AtomicU64::new(0))?;
         let whole = wanted.len() as u64;
         let (piece_behind, end_behind) = if second == 3 {
@@ -83,7 +83,6 @@ fn client<R: Clock + Copy>(
             is_closed: false,
             sent,
         })?;
-        second += 1;
     }
     Ok(Ends {
         number,
