@@ -6,8 +6,7 @@ use Rattle.std.proofs.Math.Seq.{take-length}
 use Rattle.rd_base.specs.Words.{below}
 use Rattle.rd_base.specs.Outside.{Mark, SinkTold}
 use Rattle.rd_base.specs.Sources.{SourceTold}
-use Rattle.rd_base.specs.declared.source.Give.{Give}
-use Rattle.rd_doors.specs.Visits.{EndsTold, AreFresh, is_unasked, is_empty}
+use Rattle.rd_doors.specs.Visits.{AreFresh, is_unasked, is_empty}
 use Rattle.rd_serve_rows.specs.declared.links.WaitingSource.{WaitingSource}
 use Rattle.rd_serve_rows.specs.declared.links.CountingSink.{CountingSink}
 use Rattle.rd_serve_rows.specs.Marked.{source_told, sink_told, AreSources, AreSinks}

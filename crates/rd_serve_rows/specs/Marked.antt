@@ -1,5 +1,5 @@
 -- What links here tell.
-use Rattle.std.specs.Prelude.{◌≡◌, ℕ, None, false, List, map, All, take}
+use Rattle.std.specs.Prelude.{◌≡◌, ℕ, None, false, List, map, All}
 use Rattle.rd_base.specs.Words.{below}
 use Rattle.rd_base.specs.Outside.{SinkTold}
 use Rattle.rd_base.specs.Sources.{SourceTold}

@@ -1,4 +1,4 @@
-use Rattle.std.proofs.Common.{◌≡◌, ◌≤◌, ℕ, length, take}
+use Rattle.std.proofs.Common.{◌≡◌, take}
 use Rattle.rd_serve_rows.specs.Marked.{AreSinks}
 use Rattle.rd_serve_rows.proofs.links.are_sinks.Given as goal
 
