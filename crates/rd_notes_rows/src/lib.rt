@@ -1,7 +1,8 @@
-// Rows of kept notes, over a keeper in memory and one in a database, and over files. Tests alone.
+// Rows of kept notes, over a keeper in memory and one in a database: tests, and the notes that they put.
 #![tactic(auto)]
 
 #[cfg(test)]
 mod keepers;
-#[cfg(test)]
-mod stores;
+mod notes;
+
+pub use notes::{LAST_ID, fails_each_call, noted, page, put};

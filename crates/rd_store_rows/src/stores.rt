@@ -1,5 +1,5 @@
-use crate::keepers::{fails_each_call, noted, put};
 use rd_keeper::{Keeper, Put, SqlKeeper};
+use rd_notes_rows::{fails_each_call, noted, put};
 use sqlite::{Connection, Error};
 use std::fs;
 use std::rt::HostRuntime;
